@@ -1,24 +1,23 @@
 -- look-ups in the sorted list of keys
-use Rattle.std.proofs.Common.{◌≡◌, ℕ, ◌+◌, ◌<◌, ◌≤◌, List, [], ◌∷◌, ◌++◌, length, get_or, Contains, ap, sym, ◌∙◌, refl, subst, arith, inl, inr, ◌⊎◌, ◌↔◌, Bool, true, false, max, min}
-use Rattle.std.specs.Prelude.{Option, Some, None, codes}
+use Rattle.std.proofs.Common.{◌≡◌, ℕ, ◌+◌, ◌<◌, ◌≤◌, List, [], ◌∷◌, ◌++◌, length, get_or, Contains, ap, sym, ◌∙◌, refl, subst, arith, inl, inr, ◌⊎◌, ◌↔◌, Bool, true, false, eqb, max, min}
+use Rattle.std.specs.Option.{option_eq}
+use Rattle.std.specs.Prelude.{Option, Some, None}
 use Rattle.std.specs.Ordering.{nat_cmp, ordering_then, is_lt, is_eq, ordering_reverse}
 use Rattle.std.specs.Cmp.{IsTotalOrder}
 use Rattle.std.specs.List.Sorted.{IsSorted, IsPartitionedBy}
 use Rattle.std.specs.declared.cmp.Ordering.{Ordering}
 use Rattle.std.specs.declared.cmp.Ordering.TheVariants.{Less, Equal, Greater}
 use Rattle.std.proofs.lemmas.Bool.{cases_lt}
+use Rattle.std.proofs.lemmas.Bool.Decides.{Decides-eqb}
 use Rattle.std.proofs.lemmas.Cmp.{nat_cmp_total, nat_list_cmp_total, on_total, then_total, tied_itself}
 use Rattle.std.proofs.lemmas.List.{get_or_default}
 use Rattle.std.proofs.lemmas.List.Elements.{Contains-append_left, Contains-push, Contains-push_cases}
 use Rattle.std.proofs.lemmas.List.Sorted.{searchable_from_sorted, sorted_far, ranks_by}
 use Rattle.std.proofs.lemmas.Map.Lookups.{exact_bytes}
 use Rattle.rbac_terms.specs.Text.{Text, text_cmp}
-use Rattle.rbac_terms.specs.Principals.{Who, who_key, given_of, IsAccountIn, SignsInAs}
 use Rattle.rbac_subjects.specs.declared.subject_keys.Keyed.{Keyed}
 use Rattle.rbac_subjects.specs.declared.live_bindings.Live.{Live}
-use Rattle.rbac_model.specs.Holders.{IsKeyFor}
-use Rattle.rbac_subjects.specs.Keyed.{keyed, keyed_cmp, IsFirstEntry, IsLiveAt, IsNextOf, AnswersNext, IsLiveUnder, IsUnderBetween, IsLiveUnderAny, IsGivenKey, IsAccountKey, IsSignInKey, sooner}
-use Rattle.rbac_subjects.proofs.KeysOf.{keys_sorted}
+use Rattle.rbac_subjects.specs.Keyed.{keyed, keyed_cmp, IsFirstEntry, IsLiveAt, IsNextOf, AnswersNext, IsLiveUnder, IsUnderBetween, IsLiveUnderAny, sooner}
 use Rattle.rbac_terms.proofs.Orderings.{lt_back}
 
 then_assoc : (a b c : Ordering) → ordering_then (ordering_then a b) c ≡ ordering_then a (ordering_then b c)
@@ -242,101 +241,29 @@ pub next_same : (P Q : ℕ → Type 0) (from : ℕ) (a : Option ℕ) → ((n : �
 next_same P Q from None same f = λ n le q. f n le ((same n).1 q)
 next_same P Q from (Some a) same f = record { after = f.after; holds = (same a).0 f.holds; none_before = λ n le less q. f.none_before n le less ((same n).1 q) }
 
-any_none : (xs : List Keyed) (live : Live) (Has : Text → Type 0) (n : ℕ) → ((key : Text) → Has key → ⊥) → IsLiveUnderAny xs live Has n → ⊥
-any_none xs live Has n none a = none a.0 a.1
-
--- the places of a principal's keys, by the kinds of keys
+-- the places of keys, one key after the other
 module _ (xs : List Keyed) (live : Live) where
-  pub given_none : (n : ℕ) → IsLiveUnderAny xs live (IsGivenKey []) n → ⊥
-  given_none n a = any_none xs live (IsGivenKey []) n (λ key k. absurd (omega (arith, k.1.1))) a
+  pub no_key : (n : ℕ) → IsLiveUnderAny xs live (Contains []) n → ⊥
+  no_key n w = omega (arith, w.1.1)
 
-  pub given_one : (given : List Text) (group : Text) (n : ℕ) → (IsLiveUnderAny xs live (IsGivenKey given) n ⊎ IsLiveUnder xs live (codes "g:" ++ group) n) ↔ IsLiveUnderAny xs live (IsGivenKey (given ++ group ∷ [])) n
-  given_one given group n = (
+  pub one_more_key : (keys : List Text) (key : Text) (n : ℕ) → (IsLiveUnderAny xs live (Contains keys) n ⊎ IsLiveUnder xs live key n) ↔ IsLiveUnderAny xs live (Contains (keys ++ key ∷ [])) n
+  one_more_key keys key n = (
     λ d. elim d [
-      | inl w ↦ (w.0, (w.1.0, Contains-append_left given (group ∷ []) w.1.0 w.1.1, w.1.2), w.2)
-      | inr u ↦ (codes "g:" ++ group, (group, Contains-push given group, refl), u)
+      | inl w ↦ (w.0, Contains-append_left keys (key ∷ []) w.0 w.1, w.2)
+      | inr u ↦ (key, Contains-push keys key, u)
     ],
-    λ w. elim (Contains-push_cases given group w.1.0 w.1.1) [
-      | inl old ↦ inl (w.0, (w.1.0, old, w.1.2), w.2)
-      | inr new ↦ inr (subst (λ (t : Text). IsLiveUnder xs live t n) (w.1.2 ∙ ap (λ (t : Text). codes "g:" ++ t) (sym new)) w.2)
-    ],
-  )
-
-  pub account_two : (who : Who) (own : Text) → ((n : Text) → IsAccountIn who n ↔ (n ≡ own)) → (n : ℕ) → (IsLiveUnder xs live (codes "g:system:serviceaccounts") n ⊎ IsLiveUnder xs live (codes "g:system:serviceaccounts:" ++ own) n) ↔ IsLiveUnderAny xs live (IsAccountKey who) n
-  account_two who own is n = (
-    λ d. elim d [
-      | inl u ↦ (codes "g:system:serviceaccounts", (own, (is own).1 refl, inl refl), u)
-      | inr u ↦ (codes "g:system:serviceaccounts:" ++ own, (own, (is own).1 refl, inr refl), u)
-    ],
-    λ w. elim w.1.2 [
-      | inl e ↦ inl (subst (λ (t : Text). IsLiveUnder xs live t n) e w.2)
-      | inr e ↦ inr (subst (λ (t : Text). IsLiveUnder xs live t n) (e ∙ ap (λ (t : Text). codes "g:system:serviceaccounts:" ++ t) ((is w.1.0).0 w.1.1)) w.2)
+    λ w. elim (Contains-push_cases keys key w.0 w.1) [
+      | inl old ↦ inl (w.0, old, w.2)
+      | inr e ↦ inr (subst (λ (t : Text). IsLiveUnder xs live t n) (sym e) w.2)
     ],
   )
 
-  pub signed_in_one : (who : Who) (own : Text) → ((g : Text) → SignsInAs who g ↔ (g ≡ own)) → (n : ℕ) → IsLiveUnder xs live (codes "g:" ++ own) n ↔ IsLiveUnderAny xs live (IsSignInKey who) n
-  signed_in_one who own is n = (
-    λ u. (codes "g:" ++ own, (own, (is own).1 refl, refl), u),
-    λ w. subst (λ (t : Text). IsLiveUnder xs live t n) (w.1.2 ∙ ap (λ (t : Text). codes "g:" ++ t) ((is w.1.0).0 w.1.1)) w.2,
-  )
+  pub all_keys : (keys : List Text) (Is : Text → Type 0) → ((key : Text) → Contains keys key ↔ Is key) → (n : ℕ) → IsLiveUnderAny xs live (Contains keys) n ↔ IsLiveUnderAny xs live Is n
+  all_keys keys Is exact n = (λ w. (w.0, (exact w.0).0 w.1, w.2), λ w. (w.0, (exact w.0).1 w.1, w.2))
 
-  -- under a key of one of the four kinds
-  abbrev pub IsUnderSome : Who → Text → ℕ → Type 0
-  IsUnderSome who own n = (IsLiveUnder xs live own n ⊎ IsLiveUnderAny xs live (IsGivenKey (given_of who)) n) ⊎ (IsLiveUnderAny xs live (IsAccountKey who) n ⊎ IsLiveUnderAny xs live (IsSignInKey who) n)
-
-  pub all_four : (who : Who) (own : Text) → own ≡ who_key who → (n : ℕ) → IsUnderSome who own n ↔ IsLiveUnderAny xs live (IsKeyFor who) n
-  all_four who own is n = (
-    λ w. elim w [
-      | inl l ↦ elim l [
-        | inl u ↦ (own, (keys_sorted who own).0 (inl (inl is)), u)
-        | inr v ↦ (v.0, (keys_sorted who v.0).0 (inl (inr v.1)), v.2)
-      ]
-      | inr l ↦ elim l [
-        | inl v ↦ (v.0, (keys_sorted who v.0).0 (inr (inl v.1)), v.2)
-        | inr v ↦ (v.0, (keys_sorted who v.0).0 (inr (inr v.1)), v.2)
-      ]
-    ],
-    λ w. elim ((keys_sorted who w.0).1 w.1) [
-      | inl l ↦ elim l [
-        | inl e ↦ inl (inl (subst (λ (t : Text). IsLiveUnder xs live t n) (e ∙ sym is) w.2))
-        | inr v ↦ inl (inr (w.0, v, w.2))
-      ]
-      | inr l ↦ elim l [
-        | inl v ↦ inr (inl (w.0, v, w.2))
-        | inr v ↦ inr (inr (w.0, v, w.2))
-      ]
-    ],
-  )
-
-  module _ (from : ℕ) where
-    pub given_more : (given : List Text) (group : Text) (a b : Option ℕ) → AnswersNext (IsLiveUnderAny xs live (IsGivenKey given)) from a → AnswersNext (IsLiveUnder xs live (codes "g:" ++ group)) from b → AnswersNext (IsLiveUnderAny xs live (IsGivenKey (given ++ group ∷ []))) from (sooner a b)
-    given_more given group a b f g =
-        let P : ℕ → Type 0 = IsLiveUnderAny xs live (IsGivenKey given) in
-        let Q : ℕ → Type 0 = IsLiveUnder xs live (codes "g:" ++ group) in
-        next_same (λ n. P n ⊎ Q n) (IsLiveUnderAny xs live (IsGivenKey (given ++ group ∷ []))) from (sooner a b) (given_one given group) (sooner_next P Q from a b f g)
-
-    -- no other group makes the first place come sooner
-    pub given_first : (given : List Text) (group : Text) → AnswersNext (IsLiveUnderAny xs live (IsGivenKey given)) from (Some from) → AnswersNext (IsLiveUnderAny xs live (IsGivenKey (given ++ group ∷ []))) from (Some from)
-    given_first given group h = record {
-      after = omega arith;
-      holds = (given_one given group from).0 (inl h.holds);
-      none_before = λ n low high. absurd (omega arith);
-    }
-
-    pub account_next : (who : Who) (own : Text) (a b : Option ℕ) → ((n : Text) → IsAccountIn who n ↔ (n ≡ own)) → AnswersNext (IsLiveUnder xs live (codes "g:system:serviceaccounts")) from a → AnswersNext (IsLiveUnder xs live (codes "g:system:serviceaccounts:" ++ own)) from b → AnswersNext (IsLiveUnderAny xs live (IsAccountKey who)) from (sooner a b)
-    account_next who own a b is f g =
-        let P : ℕ → Type 0 = IsLiveUnder xs live (codes "g:system:serviceaccounts") in
-        let Q : ℕ → Type 0 = IsLiveUnder xs live (codes "g:system:serviceaccounts:" ++ own) in
-        next_same (λ n. P n ⊎ Q n) (IsLiveUnderAny xs live (IsAccountKey who)) from (sooner a b) (account_two who own is) (sooner_next P Q from a b f g)
-
-    pub signed_in_next : (who : Who) (own : Text) (a : Option ℕ) → ((g : Text) → SignsInAs who g ↔ (g ≡ own)) → AnswersNext (IsLiveUnder xs live (codes "g:" ++ own)) from a → AnswersNext (IsLiveUnderAny xs live (IsSignInKey who)) from a
-    signed_in_next who own a is f = next_same (IsLiveUnder xs live (codes "g:" ++ own)) (IsLiveUnderAny xs live (IsSignInKey who)) from a (signed_in_one who own is) f
-
-    pub all_next : (who : Who) (own : Text) (a b c d : Option ℕ) → own ≡ who_key who → AnswersNext (IsLiveUnder xs live own) from a → AnswersNext (IsLiveUnderAny xs live (IsGivenKey (given_of who))) from b → AnswersNext (IsLiveUnderAny xs live (IsAccountKey who)) from c → AnswersNext (IsLiveUnderAny xs live (IsSignInKey who)) from d → AnswersNext (IsLiveUnderAny xs live (IsKeyFor who)) from (sooner (sooner a b) (sooner c d))
-    all_next who own a b c d is f g h k =
-        let P : ℕ → Type 0 = IsLiveUnder xs live own in
-        let Q : ℕ → Type 0 = IsLiveUnderAny xs live (IsGivenKey (given_of who)) in
-        let R : ℕ → Type 0 = IsLiveUnderAny xs live (IsAccountKey who) in
-        let S : ℕ → Type 0 = IsLiveUnderAny xs live (IsSignInKey who) in
-        next_same (IsUnderSome who own) (IsLiveUnderAny xs live (IsKeyFor who)) from (sooner (sooner a b) (sooner c d)) (all_four who own is)
-        (sooner_next (λ n. P n ⊎ Q n) (λ n. R n ⊎ S n) from (sooner a b) (sooner c d) (sooner_next P Q from a b f g) (sooner_next R S from c d h k))
+  -- no key makes the first place come sooner
+  pub first_under : (Is : Text → Type 0) (key : Text) (from : ℕ) (found : Option ℕ) → Is key → option_eq eqb found (Some from) ≡ true → AnswersNext (IsLiveUnder xs live key) from found → AnswersNext (IsLiveUnderAny xs live Is) from found
+  first_under Is key from None is e next = cc
+  first_under Is key from (Some at) is e next =
+      let first : at ≡ from = (Decides-eqb at from).0 e in
+      record { after = next.after; holds = (key, is, next.holds); none_before = λ n low high. absurd (omega (arith, first, low, high)) }

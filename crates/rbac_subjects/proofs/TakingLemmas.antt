@@ -1,16 +1,13 @@
 -- the places under a principal's keys, taken in one after the other
-use Rattle.std.proofs.Common.{◌≡◌, ℕ, ◌+◌, ◌<◌, ◌≤◌, List, [], ◌∷◌, ◌++◌, inl, inr, ◌⊎◌, ◌↔◌, length, get_or, true, arith}
-use Rattle.std.specs.Prelude.{codes}
+use Rattle.std.proofs.Common.{◌≡◌, ℕ, ◌+◌, ◌<◌, ◌≤◌, List, inl, inr, ◌⊎◌, length, get_or, true, arith}
 use Rattle.std.specs.Ordering.{is_lt}
 use Rattle.std.specs.List.Sorted.{IsSorted}
 use Rattle.rbac_terms.specs.Text.{Text}
-use Rattle.rbac_terms.specs.Principals.{Who, who_key, given_of, IsAccountIn, SignsInAs}
 use Rattle.rbac_subjects.specs.declared.subject_keys.Keyed.{Keyed}
 use Rattle.rbac_subjects.specs.declared.live_bindings.Live.{Live}
-use Rattle.rbac_model.specs.Holders.{IsKeyFor}
-use Rattle.rbac_subjects.specs.Keyed.{keyed, keyed_cmp, IsFirstEntry, IsLiveUnder, IsUnderBetween, IsLiveUnderAny, IsGivenKey, IsAccountKey, IsSignInKey}
+use Rattle.rbac_subjects.specs.Keyed.{keyed, keyed_cmp, IsFirstEntry, IsLiveUnder, IsUnderBetween}
 use Rattle.rbac_subjects.specs.Least.{LeastView, IsPast, Takes}
-use Rattle.rbac_subjects.proofs.KeyedLemmas.{IsSeen, none_seen, all_seen, one_more, no_less, given_none, given_one, account_two, signed_in_one, IsUnderSome, all_four}
+use Rattle.rbac_subjects.proofs.KeyedLemmas.{IsSeen, none_seen, all_seen, one_more, no_less}
 use Rattle.rbac_subjects.proofs.LeastLemmas.{past_later, takes_both, takes_nothing, takes_past, takes_same}
 
 -- entries are gone through, and the places `from..to` of a key are taken in
@@ -41,34 +38,3 @@ live_both xs live key a b c s t = takes_same (λ n. IsUnderBetween xs key 0 live
   λ d. elim d [ inl p ↦ (p.0, inl p.2) | inr p ↦ (p.0, inr (p.1, p.2)) ],
   λ p. elim p.1 [ inl l ↦ inl (p.0, omega arith, l) | inr w ↦ inr (p.0, w.0, w.1) ],
 )) (takes_both (IsUnderBetween xs key 0 live.cluster_wide) (IsUnderBetween xs key live.from live.to) a b c s t)
-
-module _ (xs : List Keyed) (live : Live) where
-  pub no_given : (l : LeastView) → Takes (IsLiveUnderAny xs live (IsGivenKey [])) l l
-  no_given l = takes_nothing (IsLiveUnderAny xs live (IsGivenKey [])) l (given_none xs live)
-
-  pub more_given : (given : List Text) (group : Text) (a b c : LeastView) → Takes (IsLiveUnderAny xs live (IsGivenKey given)) a b → Takes (IsLiveUnder xs live (codes "g:" ++ group)) b c → Takes (IsLiveUnderAny xs live (IsGivenKey (given ++ group ∷ []))) a c
-  more_given given group a b c s t =
-      let P : ℕ → Type 0 = IsLiveUnderAny xs live (IsGivenKey given) in
-      let Q : ℕ → Type 0 = IsLiveUnder xs live (codes "g:" ++ group) in
-      takes_same (λ n. P n ⊎ Q n) (IsLiveUnderAny xs live (IsGivenKey (given ++ group ∷ []))) a c (given_one xs live given group) (takes_both P Q a b c s t)
-
-  pub of_account : (who : Who) (own : Text) (a b c : LeastView) → ((n : Text) → IsAccountIn who n ↔ (n ≡ own)) → Takes (IsLiveUnder xs live (codes "g:system:serviceaccounts")) a b → Takes (IsLiveUnder xs live (codes "g:system:serviceaccounts:" ++ own)) b c → Takes (IsLiveUnderAny xs live (IsAccountKey who)) a c
-  of_account who own a b c is s t =
-      let P : ℕ → Type 0 = IsLiveUnder xs live (codes "g:system:serviceaccounts") in
-      let Q : ℕ → Type 0 = IsLiveUnder xs live (codes "g:system:serviceaccounts:" ++ own) in
-      takes_same (λ n. P n ⊎ Q n) (IsLiveUnderAny xs live (IsAccountKey who)) a c (account_two xs live who own is) (takes_both P Q a b c s t)
-
-  pub signed_in : (who : Who) (own : Text) (a b : LeastView) → ((g : Text) → SignsInAs who g ↔ (g ≡ own)) → Takes (IsLiveUnder xs live (codes "g:" ++ own)) a b → Takes (IsLiveUnderAny xs live (IsSignInKey who)) a b
-  signed_in who own a b is s = takes_same (IsLiveUnder xs live (codes "g:" ++ own)) (IsLiveUnderAny xs live (IsSignInKey who)) a b (signed_in_one xs live who own is) s
-
-  pub no_keys : (Has : Text → Type 0) (l : LeastView) → ((key : Text) → Has key → ⊥) → Takes (IsLiveUnderAny xs live Has) l l
-  no_keys Has l none = takes_nothing (IsLiveUnderAny xs live Has) l (λ n a. none a.0 a.1)
-
-  pub all_keys : (who : Who) (own : Text) (a b c d e : LeastView) → own ≡ who_key who → Takes (IsLiveUnder xs live own) a b → Takes (IsLiveUnderAny xs live (IsGivenKey (given_of who))) b c → Takes (IsLiveUnderAny xs live (IsAccountKey who)) c d → Takes (IsLiveUnderAny xs live (IsSignInKey who)) d e → Takes (IsLiveUnderAny xs live (IsKeyFor who)) a e
-  all_keys who own a b c d e is s t u v =
-      let P : ℕ → Type 0 = IsLiveUnder xs live own in
-      let Q : ℕ → Type 0 = IsLiveUnderAny xs live (IsGivenKey (given_of who)) in
-      let R : ℕ → Type 0 = IsLiveUnderAny xs live (IsAccountKey who) in
-      let S : ℕ → Type 0 = IsLiveUnderAny xs live (IsSignInKey who) in
-      takes_same (IsUnderSome xs live who own) (IsLiveUnderAny xs live (IsKeyFor who)) a e (all_four xs live who own is)
-      (takes_both (λ n. P n ⊎ Q n) (λ n. R n ⊎ S n) a c e (takes_both P Q a b c s t) (takes_both R S c d e u v))

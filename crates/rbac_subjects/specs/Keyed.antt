@@ -1,11 +1,10 @@
 -- The bindings under the keys of their subjects.
-use Rattle.std.specs.Prelude.{◌≡◌, ℕ, ◌<◌, ◌≤◌, ◌⊎◌, ◌↔◌, List, ◌++◌, codes, Option, Some, None}
+use Rattle.std.specs.Prelude.{◌≡◌, ℕ, ◌<◌, ◌≤◌, ◌⊎◌, ◌↔◌, List, Option, Some, None}
 use Rattle.std.specs.Prelude.{Contains, MatchOption, slice_get, min, true, false}
 use Rattle.std.specs.Ordering.{is_lt, nat_cmp, ordering_then}
 use Rattle.std.specs.List.Sorted.{IsPartitionPoint, IsSorted}
 use Rattle.std.specs.declared.cmp.Ordering.{Ordering}
 use Rattle.rbac_terms.specs.Text.{Text, text_cmp}
-use Rattle.rbac_terms.specs.Principals.{Who, IsAccountIn, SignsInAs}
 use Rattle.rbac_terms.specs.declared.granting.Binding.{Binding}
 use Rattle.rbac_model.specs.Policies.{PolicyView, IsOfBinding}
 use Rattle.rbac_model.specs.Holders.{HasKey}
@@ -81,20 +80,3 @@ abbrev pub sooner : Option ℕ → Option ℕ → Option ℕ
 sooner None b = b
 sooner (Some a) None = Some a
 sooner (Some a) (Some b) = Some (min a b)
-
--- the key of one of the given groups
-abbrev pub IsGivenKey : List Text → Text → Type 0
-IsGivenKey given key = (g : Text) × Contains given g × (key ≡ codes "g:" ++ g)
-
--- the key of a group that service accounts are in: that of all of them, or that of the namespace's
-abbrev pub IsAccountKeyOf : Text → Text → Type 0
-IsAccountKeyOf namespace key = (key ≡ codes "g:system:serviceaccounts")
-    ⊎ (key ≡ codes "g:system:serviceaccounts:" ++ namespace)
-
--- the key of a group that who asks is in as a service account
-abbrev pub IsAccountKey : Who → Text → Type 0
-IsAccountKey who key = (namespace : Text) × IsAccountIn who namespace × IsAccountKeyOf namespace key
-
--- the key of the group that says whether who asks has signed in
-abbrev pub IsSignInKey : Who → Text → Type 0
-IsSignInKey who key = (g : Text) × SignsInAs who g × (key ≡ codes "g:" ++ g)

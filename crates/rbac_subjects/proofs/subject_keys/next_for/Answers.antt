@@ -1,25 +1,39 @@
-use Rattle.std.proofs.Common.{◌≡◌, ◌∙◌, ◌++◌, [], ℕ, ap, sym, subst}
-use Rattle.std.specs.Prelude.{Option}
-use Rattle.std.proofs.lemmas.List.{append-nil}
+use Rattle.std.proofs.Common.{◌∙◌, ◌⊎◌, ◌++◌, ◌∷◌, [], List, ℕ, Contains, length, sym, map-id, subst}
+use Rattle.std.proofs.lemmas.Iterator.Consumers.{YieldsList-end, YieldsList-turn}
 use Rattle.rbac_terms.specs.Text.{Text}
-use Rattle.rbac_terms.specs.Principals.{who_key}
 use Rattle.rbac_model.specs.Holders.{IsKeyFor}
-use Rattle.rbac_subjects.specs.Keyed.{AnswersNext, IsLiveUnderAny, sooner}
-use Rattle.rbac_subjects.proofs.KeyedLemmas.{all_next}
+use Rattle.rbac_subjects.specs.Keyed.{AnswersNext, IsLiveUnder, IsLiveUnderAny, sooner}
+use Rattle.rbac_subjects.proofs.KeysOf.{walk}
+use Rattle.rbac_subjects.proofs.KeyedLemmas.{all_keys, first_under, next_same, no_key, one_more_key, sooner_next}
 use Rattle.rbac_subjects.proofs.subject_keys.next_for.Goals as goal
 
-pub returns : goal.returns
-returns c =
+pub loop-key-init : goal.loop-key-init
+loop-key-init c = λ n le w. no_key c.args.entries.now c.args.live n w
+
+pub loop-key-preserved : goal.loop-key-preserved
+loop-key-preserved c =
     let xs = c.args.entries.now in
     let live = c.args.live in
     let from = c.args.from in
-    let who = c.args.principal.now in
-    let own : Text = c.as_bytes.result.now ++ [] in
-    let is : own ≡ who_key who = append-nil c.as_bytes.result.now ∙ c.as_bytes.ensures ∙ c.key.ensures in
-    let a : Option ℕ = c.next_live-own.result in
-    let b : Option ℕ = c.next_given-given.result in
-    let d : Option ℕ = c.next_of_account-account.result in
-    let e : Option ℕ = c.next_signed_in-signed_in.result in
-    let told : c.sooner-3.result ≡ sooner (sooner a b) (sooner d e) = c.sooner-3.ensures ∙ ap (λ (o : Option ℕ). sooner o c.sooner-2.result) c.sooner.ensures ∙ ap (λ (o : Option ℕ). sooner (sooner a b) o) c.sooner-2.ensures in
-    subst (λ (o : Option ℕ). AnswersNext (IsLiveUnderAny xs live (IsKeyFor who)) from o) (sym told)
-    (all_next xs live from who own a b d e is c.next_live-own.ensures c.next_given-given.ensures c.next_of_account-account.ensures c.next_signed_in-signed_in.ensures)
+    let before : List Text = c.loop-key.yielded in
+    let key : Text = c.in-Some.key in
+    let P : ℕ → Type 0 = IsLiveUnderAny xs live (Contains before) in
+    let Q : ℕ → Type 0 = IsLiveUnder xs live key in
+    rw c.sooner-next.ensures (next_same (λ n. P n ⊎ Q n) (IsLiveUnderAny xs live (Contains (before ++ key ∷ []))) from (sooner c.loop-key.next c.next_live-found.result) (one_more_key xs live before key)
+    (sooner_next P Q from c.loop-key.next c.next_live-found.result c.loop-key.invariant c.next_live-found.ensures))
+
+pub returns : goal.returns
+returns c =
+    let keys : List Text = c.keys_of-key-items.result in
+    let xs = c.args.entries.now in
+    let live = c.args.live in
+    let end = YieldsList-end (walk keys c.into_iter-key-iterator.ensures.into_iter_gives) c.loop-key.yielded _ c.loop-key.yielded_by _ _ c.in-None.is c.next.ensures.steps in
+    next_same (IsLiveUnderAny xs live (Contains keys)) (IsLiveUnderAny xs live (IsKeyFor c.args.principal.now)) c.args.from c.loop-key.next (all_keys xs live keys (IsKeyFor c.args.principal.now) c.keys_of-key-items.ensures)
+    (subst (λ (seen : List Text). AnswersNext (IsLiveUnderAny xs live (Contains seen)) c.args.from c.loop-key.next) (sym (map-id c.loop-key.yielded) ∙ end.0) c.loop-key.invariant)
+
+pub returns-then-eq : goal.returns-then-eq
+returns-then-eq c =
+    let keys : List Text = c.keys_of-key-items.result in
+    let turn = YieldsList-turn (walk keys c.into_iter-key-iterator.ensures.into_iter_gives) c.loop-key.yielded _ c.loop-key.yielded_by _ _ c.in-Some.key c.in-Some.is c.next.ensures.steps in
+    let is = (c.keys_of-key-items.ensures c.in-Some.key).0 (length c.loop-key.yielded, turn.0, sym turn.1) in
+    first_under c.args.entries.now c.args.live (IsKeyFor c.args.principal.now) c.in-Some.key c.args.from c.next_live-found.result is (sym c.eq.ensures ∙ c.if-eq.true) c.next_live-found.ensures
