@@ -1,4 +1,4 @@
--- the places under a principal's keys, taken in one after the other
+-- the places of a key, taken in one after the other
 use Rattle.std.proofs.Common.{◌≡◌, ℕ, ◌+◌, ◌<◌, ◌≤◌, List, inl, inr, ◌⊎◌, length, get_or, true, arith}
 use Rattle.std.specs.Ordering.{is_lt}
 use Rattle.std.specs.List.Sorted.{IsSorted}
