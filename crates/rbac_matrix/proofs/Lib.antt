@@ -22,6 +22,7 @@ pub mod OneMatrix
 pub mod Orders
 pub mod PairLemmas
 pub mod PassLemmas
+pub mod PlaceLemmas
 pub mod Product
 pub mod RepeatedLemmas
 pub mod RowLemmas

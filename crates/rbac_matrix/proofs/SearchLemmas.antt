@@ -112,6 +112,18 @@ module _ {X K : Type 0} (cmp : K → K → Ordering) (total : IsTotalOrder cmp) 
         | inr v ↦ not_tied _ tie (g.above x v)
       ]
 
+  -- nothing ties but what is found
+  pub found_alone : (i : ℕ) → IsFoundAt cmp name xs t i → (j : ℕ) (x : X) → slice_get xs j ≡ Some x → name x ≡ t → j ≡ i
+  found_alone i f j x at e =
+      let tie : cmp (name x) t ≡ Equal = ap (λ (k : K). cmp k t) e ∙ tied_itself total t in
+      elim (cases_lt j i) [
+        | inl lt ↦ absurd (not_less _ (f.below x (take_in xs i j x lt at)) tie)
+        | inr ge ↦ elim (cases_lt i j) [
+          | inl gt ↦ absurd (not_tied _ tie (f.above x (drop_in xs (i + 1) j x (omega arith) at)))
+          | inr le ↦ omega arith
+        ]
+      ]
+
 -- lists in order of one text
 pub by_text : {X : Type 0} (name : X → Text) (xs : List X) → IsAscendingBy (λ x. name x ∷ []) xs → (i j : ℕ) (d : X) → i < j → j < length xs → text_cmp (name (get_or xs i d)) (name (get_or xs j d)) ≡ Less
 by_text name xs up i j d lt l = less_alone (text_cmp (name (get_or xs i d)) (name (get_or xs j d))) (up i j d lt l)

@@ -86,6 +86,15 @@ comes_on p l w v here step other a = elim (cases_lt other here) [
   ]
 ]
 
+-- the verb of a line has no part in where its walks come
+pub other_verb : (p : PolicyView) (l : LineView) (verb : Text) (w v : Walk) (number : ℕ) → ComesTo p l w v number → ComesTo p (line l.who l.namespace verb) w v number
+unfolding IsBoundOn
+other_verb p l verb w v number step = record { on = step.on; passed = step.passed; first = step.first }
+
+pub bound_of_verb : (p : PolicyView) (l : LineView) (verb : Text) (k : ℕ) → IsBoundOn p (line l.who l.namespace verb) k → IsBoundOn p l k
+unfolding IsBoundOn
+bound_of_verb p l verb k bound = bound
+
 -- a walk that comes to no other grant has no cursor ahead
 pub none_ahead : (p : PolicyView) (l : LineView) (w : Walk) → ((k : ℕ) → w.next ≤ k → k < length p.grants → IsBoundOn p l k → ⊥) → (k : ℕ) → IsAhead p l w k → ⊥
 none_ahead p l w none k a = let bound = cursor_bound p l k a.0 in none k a.1 (bound_within p l k bound) bound
@@ -165,20 +174,17 @@ module _ (p : PolicyView) (ok : IsPolicy p) (who : Who) (a b : Text) (bare : ¬ 
   runs_elsewhere are_all from (run ∷ runs) are = (next_elsewhere from run.start run.end are.0, runs_elsewhere are_all run.end runs are.1)
 
 -- and so are the verbs that they have
-verbs_elsewhere : (p : PolicyView) (u : UniverseView) → IsPolicy p → (who : Who) (a b : Text) (told : List Bool) → (¬ HasRoleBindings p.held b) → AreVerbs p u who a told → AreVerbs p u who b told
+verbs_elsewhere : (p : PolicyView) (u : UniverseView) → IsPolicy p → (who : Who) (a b : Text) (words : List ℕ) → (¬ HasRoleBindings p.held b) → AreVerbs p u who a words → AreVerbs p u who b words
 unfolding IsBoundOn
-verbs_elsewhere p u ok who a b told other are = record {
-  few = are.few;
-  missing = λ at verb is lacks k c.
-      let h = bound_elsewhere p ok who b a other k (cursor_bound p (line who b verb) k c) in
-      let same : h.0 ≡ c.grant = same_Some h.0 c.grant (sym h.1 ∙ c.at) in
-      are.missing at verb is lacks k (record { grant = h.0; at = h.1; is = (subst (λ (g : GrantView). VerbOk g.rule.rule verb) (sym same) c.is.0, h.2, h.3) });
-}
+verbs_elsewhere p u ok who a b words other are at verb is lacks k c =
+    let h = bound_elsewhere p ok who b a other k (cursor_bound p (line who b verb) k c) in
+    let same : h.0 ≡ c.grant = same_Some h.0 c.grant (sym h.1 ∙ c.at) in
+    are at verb is lacks k (record { grant = h.0; at = h.1; is = (subst (λ (g : GrantView). VerbOk g.rule.rule verb) (sym same) c.is.0, h.2, h.3) })
 
 pub serve_bare : (p : PolicyView) (u : UniverseView) → IsPolicy p → (l : LineView) (runs : Runs) → ((IsTrue runs.is_bare) → HasRoleBindings p.held l.namespace → ⊥) → AreRunsOf p u l runs → ServeBare p u l.who runs
 serve_bare p u ok l runs bare are = λ is namespace verb other. (
   runs_elsewhere p ok l.who l.namespace namespace (bare is) other runs.are_all 0 runs.kept.items are.0,
-  verbs_elsewhere p u ok l.who l.namespace namespace runs.verbs.items other are.1,
+  verbs_elsewhere p u ok l.who l.namespace namespace runs.verbs.words.items other are.1,
   are.2,
 )
 

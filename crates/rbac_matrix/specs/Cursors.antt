@@ -1,6 +1,6 @@
 -- The cursors of a line: the grants that may allow something on it.
-use Rattle.std.specs.Prelude.{◌≡◌, ℕ, ◌+◌, ◌<◌, ◌≤◌, ◌-◌, ◌⊎◌, Bool, IsTrue, List, ◌∷◌, Some}
-use Rattle.std.specs.Prelude.{slice_get, slice_index_or, drop, length, true, false}
+use Rattle.std.specs.Prelude.{◌≡◌, ℕ, ◌+◌, ◌<◌, ◌≤◌, ◌-◌, ◌⊎◌, IsTrue, List, ◌∷◌, Some}
+use Rattle.std.specs.Prelude.{slice_get, drop, length}
 use Rattle.rbac_model.specs.Policies.{PolicyView, GrantView}
 use Rattle.rbac_model.specs.Universes.{UniverseView, IsCursor}
 use Rattle.rbac_terms.specs.Text.{Text}
@@ -9,6 +9,7 @@ use Rattle.rbac_subjects.specs.Bound.{HasRoleBindings, IsBoundTo, IsNextRun, Are
 use Rattle.rbac_subjects.specs.declared.first_runs.Run.{Run}
 use Rattle.rbac_matrix.specs.GrantVerbs.{AreVerbsOfGrants}
 use Rattle.rbac_matrix.specs.Lines.{LineView, IsLineAt, line, lines_from}
+use Rattle.rbac_matrix.specs.VerbPlaces.{LacksPlace}
 use Rattle.rbac_matrix.specs.declared.bound_runs.Runs.{Runs}
 use Rattle.rbac_matrix.specs.declared.line.Place.{Place}
 use Rattle.rbac_matrix.specs.declared.walk.Walk.{Walk}
@@ -32,14 +33,10 @@ AreRunsOn p l runs from later = AreRunsFrom p l.who l.namespace runs.are_all fro
 abbrev pub AreRuns : PolicyView → LineView → Runs → Type 0
 AreRuns p l runs = AreRunsOn p l runs 0 runs.kept.items
 
--- these first verbs of the universe are told, and those told to be missing are on no grant that may
--- be live for who asks in that namespace
-pub record AreVerbs (p : PolicyView) (u : UniverseView) (who : Who) (namespace : Text)
-    (told : List Bool) : Type 0 where
-  pub few : length told ≤ length u.verbs
-  pub missing : (place : ℕ) (verb : Text) → slice_get u.verbs place ≡ Some verb
-      → slice_index_or told place true ≡ false
-      → (number : ℕ) → ¬ IsCursorAt p (line who namespace verb) number
+-- the verbs that the set lacks are on no grant that may be live for who asks in that namespace
+abbrev pub AreVerbs : PolicyView → UniverseView → Who → Text → List ℕ → Type 0
+AreVerbs p u who namespace words = (place : ℕ) (verb : Text) → slice_get u.verbs place ≡ Some verb
+    → LacksPlace words place → (number : ℕ) → ¬ IsCursorAt p (line who namespace verb) number
 
 -- the verbs of the grants that the runs keep
 abbrev pub KeepGrantVerbs : PolicyView → UniverseView → Runs → Type 0
@@ -47,7 +44,7 @@ KeepGrantVerbs p u runs = AreVerbsOfGrants p u runs.grants.items
 
 -- these are the first runs of the line, and the verbs of who asks in its namespace
 abbrev pub AreRunsOf : PolicyView → UniverseView → LineView → Runs → Type 0
-AreRunsOf p u l runs = AreRuns p l runs × AreVerbs p u l.who l.namespace runs.verbs.items
+AreRunsOf p u l runs = AreRuns p l runs × AreVerbs p u l.who l.namespace runs.verbs.words.items
     × KeepGrantVerbs p u runs
 
 -- if `is_bare` is true, the runs are those of who asks in each namespace without a RoleBinding

@@ -19,3 +19,4 @@ pub mod Seats
 pub mod Shown
 pub mod Starting
 pub mod Unnamed
+pub mod VerbPlaces

@@ -1,26 +1,24 @@
 //! The grants of the bindings that name a principal and may be live in a namespace, in runs.
 
-ghost use Rattle.std.specs.Prelude.{◌≡◌, ◌<◌, ◌≤◌, ◌↔◌, [], IsTrue, length, slice_index_or};
-ghost use Rattle.std.specs.Prelude.{Any, true, false};
+ghost use Rattle.std.specs.Prelude.{◌≡◌, ◌<◌, ◌≤◌, ◌↔◌, [], ℕ, IsTrue, Some, length, slice_get};
+ghost use Rattle.std.specs.Prelude.{Any, false};
 ghost use Rattle.rbac_matrix.specs.Shown.{line_of};
 ghost use Rattle.rbac_subjects.specs.Bound.{HasRoleBindings};
-ghost use Rattle.rbac_model.specs.Policies.{IsPolicy, PolicyView};
+ghost use Rattle.rbac_model.specs.Policies.{GrantView, IsPolicy, PolicyView};
 ghost use Rattle.rbac_model.specs.Universes.{UniverseView};
 ghost use Rattle.rbac_matrix.specs.Cursors.{AreRuns, AreRunsOf, AreVerbs, ServeBare, KeepGrantVerbs};
 ghost use Rattle.rbac_matrix.specs.GrantVerbs.{AreVerbsOfGrant, AreVerbsOfGrants};
+ghost use Rattle.rbac_matrix.specs.VerbPlaces.{AddsVerbs, LacksPlace};
 
-use crate::grant_verbs::GrantVerbs;
+use crate::grant_verbs::{GrantVerbs, MOST_VERBS};
 use crate::line::Line;
-use crate::walk::{has_cursor, next_bound, whole_walk};
+use crate::verb_places::VerbPlaces;
+use crate::walk::{next_bound, whole_walk};
 use arrayvec::ArrayVec;
 use rbac_index::Index;
 use rbac_subjects::{MOST_RUNS, Run};
 use rbac_terms::Word;
 use rbac_universe::Universe;
-
-// The most verbs of which it is kept whether a line's grants have them. The others are looked at
-// line by line.
-const MOST_TOLD: usize = 256;
 
 // The most grants of a line of which it is kept which verbs each has.
 const MOST_GRANTS: usize = 128;
@@ -35,8 +33,8 @@ pub(crate) struct Runs {
     // Whether the namespace of the line has no RoleBinding. Then the runs are those of
     // ClusterRoleBindings, and the same in every such namespace.
     is_bare: bool,
-    // Of the first verbs of the universe, whether one of these grants has each.
-    verbs: ArrayVec<bool, MOST_TOLD>,
+    // The verbs of the universe that one of these grants has, or more.
+    verbs: VerbPlaces,
     // Of the first of these grants, which verbs each has.
     grants: ArrayVec<GrantVerbs, MOST_GRANTS>,
 }
@@ -50,7 +48,7 @@ impl Runs {
             kept: ArrayVec::new(),
             are_all: true,
             is_bare: false,
-            verbs: ArrayVec::new(),
+            verbs: VerbPlaces::new(),
             grants: ArrayVec::new(),
         }
     }
@@ -75,7 +73,6 @@ impl Runs {
         ensures bare { ServeBare index.now universe.now line.entry.principal.now self.new }
     {
         self.fill_runs(index, line);
-        self.fill_grants(index, universe, line);
         self.fill_verbs(index, universe, line);
     }
 
@@ -94,47 +91,44 @@ impl Runs {
         self.is_bare = !subjects.has_role_bindings(line.namespace);
     }
 
-    // Fills in which verbs each of the first of these grants has.
-    fn fill_grants(&mut self, index: &Index<'_>, universe: &Universe, line: Line<'_>)
-        requires runs { AreRuns index.now (line_of line) self.old }
-        requires told { KeepGrantVerbs index.now universe.now self.old }
-        ensures told { KeepGrantVerbs index.now universe.now self.new }
-        ensures same { self.new ≡ record self.old { grants = self.new.grants } }
-    {
-        let mut walk = whole_walk();
-        let mut nth = 0;
-        while let Some(no) = next_bound(index, line, self, &mut walk) {
-            if nth == MOST_GRANTS {
-                return;
-            }
-            let told = GrantVerbs::of(index, universe, no, self.grants.as_slice(), nth);
-            keep_at(&mut self.grants, nth, told);
-            nth += 1;
-        }
-    }
-
-    // Fills in of the first verbs of the universe whether one of these grants has each.
+    // Fills in which verbs these grants have: all of them, and each of the first of them.
     fn fill_verbs(&mut self, index: &Index<'_>, universe: &Universe, line: Line<'_>)
         requires runs { AreRuns index.now (line_of line) self.old }
         requires told { KeepGrantVerbs index.now universe.now self.old }
         ensures verbs { AreVerbs index.now universe.now
-            line.entry.principal.now line.entry.namespace.now self.new.verbs.items }
-        ensures same { self.new ≡ record self.old { verbs = self.new.verbs } }
+            line.entry.principal.now line.entry.namespace.now self.new.verbs.words.items }
+        ensures told { KeepGrantVerbs index.now universe.now self.new }
+        ensures same { self.new ≡ record self.old { grants = self.new.grants; verbs = self.new.verbs } }
     {
-        self.verbs.clear();
-        for (verb_place, verb) in universe.verbs().iter().enumerate() {
-            if self.verbs.is_full() {
+        self.verbs.clear(universe.verbs().len());
+        let mut walk = whole_walk();
+        let mut nth: usize = 0;
+        while let Some(no) = next_bound(index, line, self, &mut walk) {
+            self.add_grant(index, universe, nth, no);
+            nth = nth.saturating_add(1);
+        }
+    }
+
+    // Fills in which verbs this grant has, the nth of these.
+    fn add_grant(&mut self, index: &Index<'_>, universe: &Universe, nth: usize, no: u32)
+        requires within { no < length index.now.grants }
+        requires told { KeepGrantVerbs index.now universe.now self.old }
+        ensures adds { (g : GrantView) → slice_get index.now.grants no ≡ Some g
+            → AddsVerbs g.rule.rule universe.now.verbs
+            self.old.verbs.words.items self.new.verbs.words.items }
+        ensures told { KeepGrantVerbs index.now universe.now self.new }
+        ensures same { self.new ≡ record self.old { grants = self.new.grants; verbs = self.new.verbs } }
+    {
+        let verbs = universe.verbs();
+        if nth < MOST_GRANTS {
+            let told = GrantVerbs::of(index, universe, no, self.grants.as_slice(), nth);
+            keep_at(&mut self.grants, nth, told);
+            if verbs.len() <= MOST_VERBS {
+                self.verbs.add_bits(told.bits());
                 return;
             }
-            let line = Line {
-                principal: line.principal,
-                namespace: line.namespace,
-                verb,
-                verb_place,
-            };
-            let has = has_cursor(index, universe, line, self);
-            self.verbs.push(has);
         }
+        self.verbs.add_rule(index.grant(no).rule, verbs);
     }
 
     // Keeps the runs for this namespace alone.
@@ -152,14 +146,21 @@ impl Runs {
         self.is_bare && !index.subjects().has_role_bindings(namespace)
     }
 
-    // Whether none of these grants has the verb at this place.
+    // Whether it is known that none of these grants has the verb at this place.
     pub(crate) fn lack_verb(&self, place: usize) -> bool
-        ensures lack { IsTrue result
-            ↔ (slice_index_or self.now.verbs.items place true ≡ false) }
-        ensures few { IsTrue result → place < 256 }
+        ensures { IsTrue result ↔ LacksPlace self.now.verbs.words.items place }
     {
-        let told = self.verbs.as_slice();
-        place < told.len() && !told[place]
+        self.verbs.lack(place)
+    }
+
+    // The place of the next verb, from this place on, of which that isn't known.
+    pub(crate) fn next_verb(&self, from: usize) -> usize
+        ensures on { from ≤ result }
+        ensures none { (place : ℕ) → from ≤ place → place < result
+            → LacksPlace self.now.verbs.words.items place }
+        ensures here { ¬ LacksPlace self.now.verbs.words.items result }
+    {
+        self.verbs.next(from)
     }
 
     // The runs that are kept.

@@ -1,7 +1,7 @@
 //! Which verbs the rule of a grant has, kept from one line to the next: the grants of
 //! ClusterRoleBindings are the same in each namespace.
 
-ghost use Rattle.std.specs.Prelude.{◌<◌, ◌↔◌, IsTrue, length};
+ghost use Rattle.std.specs.Prelude.{◌≡◌, ◌<◌, ◌↔◌, IsTrue, length};
 ghost use Rattle.rbac_matrix.specs.Shown.{HasItsVerb};
 ghost use Rattle.rbac_matrix.specs.GrantVerbs.{AreBits, AreVerbsOfGrant, AreVerbsOfGrants};
 ghost use Rattle.rbac_matrix.specs.GrantVerbs.{HasBit, HasVerbAt};
@@ -12,7 +12,7 @@ use rbac_terms::{Rule, Word, verb_matches};
 use rbac_universe::Universe;
 
 // Of how many verbs of a universe it is kept whether a grant's rule has them.
-const MOST_VERBS: usize = 64;
+pub(crate) const MOST_VERBS: usize = 64;
 
 /// Which of the first verbs of a universe the rule of a grant has: those whose bit is 1.
 #[derive(Clone, Copy, Default)]
@@ -32,7 +32,8 @@ impl GrantVerbs {
     ) -> Self
         requires within { no < length index.now.grants }
         requires known { AreVerbsOfGrants index.now universe.now known.now }
-        ensures { AreVerbsOfGrant index.now universe.now result }
+        ensures told { AreVerbsOfGrant index.now universe.now result }
+        ensures no { result.no ≡ no }
     {
         if let Some(told) = known.get(nth) {
             if told.no == no {
@@ -43,6 +44,13 @@ impl GrantVerbs {
             no,
             bits: bits_of(index.grant(no).rule, universe.verbs()),
         }
+    }
+
+    // The bits of the verbs.
+    pub(crate) fn bits(self) -> u64
+        ensures { result ≡ self.bits }
+    {
+        self.bits
     }
 
     // Whether the bit of the verb at this place is 1.

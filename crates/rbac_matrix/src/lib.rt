@@ -24,6 +24,7 @@ mod seats;
 mod start;
 mod steps;
 mod unnamed;
+mod verb_places;
 mod walk;
 
 pub use enumeration::Rows;

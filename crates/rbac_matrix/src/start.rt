@@ -51,7 +51,7 @@ fn principal_place(universe: &Universe, key: &Key) -> Result<usize, usize>
 }
 
 // Where the word is, or would go.
-fn word_place(words: &[Word], word: &Word) -> Result<usize, usize>
+pub(crate) fn word_place(words: &[Word], word: &Word) -> Result<usize, usize>
     requires { IsAscendingBy (λ w. w ∷ []) words.now }
     ensures found { IfOk result (IsFoundAt text_cmp (λ w. w) words.now word.now) }
     ensures gap { IfErr result (IsGapAt text_cmp (λ w. w) words.now word.now) }

@@ -1,7 +1,6 @@
 //! The rows of a line, by the seats of its cursors.
 
-ghost use Rattle.std.specs.Prelude.{ℕ, ◌≡◌, ◌<◌, ◌⊎◌, ◌↔◌, [], IsTrue, MatchOption, length};
-ghost use Rattle.std.specs.Prelude.{slice_index_or, true, false};
+ghost use Rattle.std.specs.Prelude.{ℕ, ◌≡◌, ◌<◌, ◌≤◌, ◌⊎◌, ◌↔◌, [], IsTrue, MatchOption, length};
 ghost use Rattle.rbac_model.specs.Policies.{IsPolicy};
 ghost use Rattle.rbac_model.specs.Universes.{IsUniverse, UniverseView, most_words};
 ghost use Rattle.rbac_universe.specs.Sets.{IsWithinLimits};
@@ -15,6 +14,7 @@ ghost use Rattle.rbac_matrix.specs.Passing.{EndsAll, EndsLine, FindsCell, FindsR
 ghost use Rattle.rbac_matrix.specs.Metering.{IsMetered, IsReady, Skips};
 ghost use Rattle.rbac_matrix.specs.declared.line.Place.{Place};
 ghost use Rattle.rbac_matrix.specs.Seats.{AreEmpty, AreSeated, Costs};
+ghost use Rattle.rbac_matrix.specs.VerbPlaces.{LacksPlace};
 
 use crate::advance::advance;
 use crate::basis::Basis;
@@ -131,7 +131,7 @@ pub(crate) fn next_line(
         if kept.runs.is_empty() {
             at = settled(basis.universe, past_idle(index, basis.universe, line, at));
         } else if kept.runs.lack_verb(at.verb) {
-            at = settled(basis.universe, past_verbs(&kept.runs, at));
+            at = settled(basis.universe, past_verbs(basis.universe, &kept.runs, at));
         } else {
             let filled = seat_line(basis, line, &kept.runs, 0, seats, meter);
             if filled > 0 {
@@ -145,21 +145,19 @@ pub(crate) fn next_line(
 }
 
 // The place after the verbs that none of these grants has.
-fn past_verbs(runs: &Runs, at: Place) -> Place
-    requires few { at.verb < most_words }
+fn past_verbs(universe: &Universe, runs: &Runs, at: Place) -> Place
+    requires within { at.verb < length universe.now.verbs }
     ensures place { result ≡ place at.principal at.namespace result.verb }
     ensures on { at.verb < result.verb }
+    ensures within { result.verb ≤ length universe.now.verbs }
     ensures lack { (v : ℕ) → at.verb < v → v < result.verb
-        → slice_index_or runs.now.verbs.items v true ≡ false }
+        → LacksPlace runs.now.verbs.words.items v }
 {
-    let mut verb = at.verb + 1;
-    while runs.lack_verb(verb) {
-        verb += 1;
-    }
+    let end = universe.verbs().len();
     Place {
         principal: at.principal,
         namespace: at.namespace,
-        verb,
+        verb: runs.next_verb(at.verb + 1).min(end),
     }
 }
 

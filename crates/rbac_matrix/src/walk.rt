@@ -88,22 +88,6 @@ pub(crate) fn next_cursor(
     None
 }
 
-// Whether a line has a cursor.
-pub(crate) fn has_cursor(
-    index: &Index<'_>,
-    universe: &Universe,
-    line: Line<'_>,
-    runs: &Runs,
-) -> bool
-    requires runs { AreRuns index.now (line_of line) runs.now }
-    requires told { KeepGrantVerbs index.now universe.now runs.now }
-    requires verb { HasItsVerb universe.now line }
-    ensures { IsTrue result ↔ ((k : ℕ) × IsCursorAt index.now (line_of line.entry) k) }
-{
-    let mut walk = whole_walk();
-    next_cursor(index, universe, line, runs, &mut walk, &mut 0).is_some()
-}
-
 // The next grant of a binding that names who asks and may be live, whatever the grant's verbs.
 #[inline(always)]
 pub(crate) fn next_bound(

@@ -1,10 +1,10 @@
 use Rattle.std.proofs.Common.{◌≡◌, ◌∷◌, ◌∙◌, ◌+◌, ◌-◌, ◌<◌, ◌≤◌, List, length, ap, sym, subst, refl, arith, rules, inl, inr, ℕ}
-use Rattle.std.specs.Prelude.{slice_index_or, true, false}
 use Rattle.std.proofs.lemmas.Bool.{cases_eq}
 use Rattle.rbac_model.specs.Policies.{PolicyView, IsPolicy}
 use Rattle.rbac_model.specs.Universes.{UniverseView}
 use Rattle.rbac_matrix.specs.Cursors.{AreKnownAt, AreRunsOf}
 use Rattle.rbac_matrix.specs.Metering.{Skips}
+use Rattle.rbac_matrix.specs.VerbPlaces.{LacksPlace}
 use Rattle.rbac_matrix.specs.declared.line.Place.{Place}
 use Rattle.rbac_matrix.specs.declared.bound_runs.Runs.{Runs}
 use Rattle.rbac_matrix.proofs.VerbLemmas.{runs_here, verbs_over}
@@ -77,13 +77,13 @@ pub returns-then-filled-gt0-clause-blocks : goal.returns-then-filled-gt0-clause-
 returns-then-filled-gt0-clause-blocks c = blocks_here c.args.basis.index.now c.args.basis.universe.now c.loop-line.at (line_of c.in-Some.line) _ (record { runs = c.renew.new.runs; blocks = c.fill.new.self }) c.seat_line-filled.new.seats c.in-Some.ensures.line c.fill.ensures
 
 -- the lines up to the next verb that may be had
-passed : (p : PolicyView) (u : UniverseView) → IsPolicy p → (at to : Place) (l : LineView) (runs : Runs) → IsLineAt u at l → AreRunsOf p u l runs → to ≡ place at.principal at.namespace to.verb → at.verb < to.verb → slice_index_or runs.verbs.items at.verb true ≡ false → ((v : ℕ) → at.verb < v → v < to.verb → slice_index_or runs.verbs.items v true ≡ false) → Skips p.held u at to × (length (lines_from u to) < length (lines_from u at))
-passed p u policy at to l runs here are is on first others =
-    let lacks : (w : ℕ) → at.verb ≤ w → w < at.verb + (to.verb - at.verb) → slice_index_or runs.verbs.items w true ≡ false = λ w low high. elim (cases_eq w at.verb) [
-      | inl e ↦ subst (λ (i : ℕ). slice_index_or runs.verbs.items i true ≡ false) (sym e) first
+passed : (p : PolicyView) (u : UniverseView) → IsPolicy p → (at to : Place) (l : LineView) (runs : Runs) → IsLineAt u at l → AreRunsOf p u l runs → to ≡ place at.principal at.namespace to.verb → at.verb < to.verb → to.verb ≤ length u.verbs → LacksPlace runs.verbs.words.items at.verb → ((v : ℕ) → at.verb < v → v < to.verb → LacksPlace runs.verbs.words.items v) → Skips p.held u at to × (length (lines_from u to) < length (lines_from u at))
+passed p u policy at to l runs here are is on within first others =
+    let lacks : (w : ℕ) → at.verb ≤ w → w < at.verb + (to.verb - at.verb) → LacksPlace runs.verbs.words.items w = λ w low high. elim (cases_eq w at.verb) [
+      | inl e ↦ subst (λ (i : ℕ). LacksPlace runs.verbs.words.items i) (sym e) first
       | inr ne ↦ others w (omega arith) (omega arith)
     ] in
-    let over = verbs_over p u l.who l.namespace runs.verbs.items are.1 policy at.principal at.namespace here.principal here.namespace (to.verb - at.verb) at.verb lacks in
+    let over = verbs_over p u l.who l.namespace runs.verbs.words.items are.1 policy at.principal at.namespace here.principal here.namespace (to.verb - at.verb) at.verb (omega arith) lacks in
     let e : at.verb + (to.verb - at.verb) ≡ to.verb = omega arith in
     let skips = subst (λ (i : ℕ). Skips p.held u at (place at.principal at.namespace i)) e over.0 in
     let fewer : length (lines_from u (place at.principal at.namespace to.verb)) < length (lines_from u at) = subst (λ (i : ℕ). length (lines_from u (place at.principal at.namespace i)) < length (lines_from u at)) e (omega (arith, over.1)) in
@@ -91,7 +91,7 @@ passed p u policy at to l runs here are is on first others =
 
 pub loop-line-preserved-then-lack_verb : goal.loop-line-preserved-then-lack_verb
 loop-line-preserved-then-lack_verb c =
-    let over = passed c.args.basis.index.now c.args.basis.universe.now c.requires.policy c.loop-line.at c.past_verbs.result (line_of c.in-Some.line) c.renew.new.runs c.in-Some.ensures.place c.renew.ensures.runs c.past_verbs.ensures.place c.past_verbs.ensures.on (c.lack_verb.ensures.lack.0 c.if-lack_verb.true) c.past_verbs.ensures.lack in
+    let over = passed c.args.basis.index.now c.args.basis.universe.now c.requires.policy c.loop-line.at c.past_verbs.result (line_of c.in-Some.line) c.renew.new.runs c.in-Some.ensures.place c.renew.ensures.runs c.past_verbs.ensures.place c.past_verbs.ensures.on c.past_verbs.ensures.within (c.lack_verb.ensures.0 c.if-lack_verb.true) c.past_verbs.ensures.lack in
     record {
       settled = c.settled-at-then-lack_verb.ensures.settled;
       skips = skips_then c.args.basis.index.now.held c.args.basis.universe.now c.args.at c.loop-line.at c.settled-at-then-lack_verb.result c.loop-line.invariant.skips
@@ -105,7 +105,7 @@ loop-line-preserved-then-lack_verb c =
 
 pub loop-line-smaller-then-lack_verb : goal.loop-line-smaller-then-lack_verb
 loop-line-smaller-then-lack_verb c =
-    let over = passed c.args.basis.index.now c.args.basis.universe.now c.requires.policy c.loop-line.at c.past_verbs.result (line_of c.in-Some.line) c.renew.new.runs c.in-Some.ensures.place c.renew.ensures.runs c.past_verbs.ensures.place c.past_verbs.ensures.on (c.lack_verb.ensures.lack.0 c.if-lack_verb.true) c.past_verbs.ensures.lack in
+    let over = passed c.args.basis.index.now c.args.basis.universe.now c.requires.policy c.loop-line.at c.past_verbs.result (line_of c.in-Some.line) c.renew.new.runs c.in-Some.ensures.place c.renew.ensures.runs c.past_verbs.ensures.place c.past_verbs.ensures.on c.past_verbs.ensures.within (c.lack_verb.ensures.0 c.if-lack_verb.true) c.past_verbs.ensures.lack in
     omega (arith, over.1, ap length c.settled-at-then-lack_verb.ensures.same)
 
 pub returns-then-filled-gt0-clause-runs : goal.returns-then-filled-gt0-clause-runs

@@ -1,6 +1,9 @@
 use Rattle.std.proofs.Common.{inl, inr}
 use Rattle.rbac_matrix.proofs.steps.renew.Goals as goal
 
+pub returns-then-at-gt0-clause-runs : goal.returns-then-at-gt0-clause-runs
+returns-then-at-gt0-clause-runs c = c.requires.verbs c.if-at-gt0.true
+
 pub returns-then-at-gt0-clause-bare : goal.returns-then-at-gt0-clause-bare
 returns-then-at-gt0-clause-bare c = c.requires.bare (inr c.if-at-gt0.true)
 

@@ -1,25 +1,32 @@
-use Rattle.std.proofs.Common.{◌≡◌, ◌∙◌, List, length, arith, ap, refl, sym, subst}
-use Rattle.std.specs.Prelude.{Some, slice_get, Bool}
-use Rattle.std.proofs.lemmas.List.{length_push}
-use Rattle.std.proofs.lemmas.Option.{slice_get-get_or}
-use Rattle.rbac_terms.specs.Text.{Text}
+use Rattle.std.proofs.Common.{arith, refl}
+use Rattle.rbac_terms.proofs.Reading.{read_some}
 use Rattle.rbac_matrix.specs.Shown.{line_of}
-use Rattle.rbac_matrix.specs.Cursors.{AreVerbs}
-use Rattle.rbac_matrix.proofs.VerbLemmas.{verbs_push}
+use Rattle.rbac_matrix.specs.Lines.{line}
+use Rattle.rbac_matrix.proofs.VerbLemmas.{passes_grant}
+use Rattle.rbac_matrix.proofs.WalkLemmas.{bound_of_verb, cursor_bound}
 use Rattle.rbac_matrix.proofs.bound_runs.Runs.fill_verbs.Goals as goal
 
-pub loop-verb_place-preserved : goal.loop-verb_place-preserved
-loop-verb_place-preserved c =
-    let inv = c.loop-verb_place.invariant in
-    let told = c.loop-verb_place.self.verbs.items in
-    let items : List Text = c.verbs-verb-items.result.now in
-    let there : slice_get items c.loop-verb_place.verb_place ≡ Some c.verb-item.result = slice_get-get_or items c.loop-verb_place.verb_place c.verb-item.result c.loop-verb_place-test.true ∙ ap (λ (t : Text). Some t) (sym c.verb-item.is) in
-    let at : slice_get c.args.universe.now.verbs (length told) ≡ Some c.verb-item.result = rw inv.count (subst (λ (l : List Text). slice_get l c.loop-verb_place.verb_place ≡ Some c.verb-item.result) c.verbs-verb-items.ensures.verbs there) in
+pub loop-no-init : goal.loop-no-init
+loop-no-init c =
+    let within = c.whole_walk-walk.ensures.within c.args.index.now (line_of c.args.line) c.args.self.now c.requires.runs in
     record {
-      verbs = subst (λ (told : List Bool). AreVerbs c.args.index.now c.args.universe.now (line_of c.args.line).who (line_of c.args.line).namespace told) (sym c.push.ensures.items)
-          (verbs_push c.args.index.now c.args.universe.now (line_of c.args.line).who (line_of c.args.line).namespace told inv.verbs c.verb-item.result c.has_cursor-has.result at (λ none k cursor. none (c.has_cursor-has.ensures.1 (k, cursor))));
-      count = let e = ap length c.push.ensures.items in omega (arith, e, length_push told c.has_cursor-has.result, inv.count);
-      runs = inv.runs;
-      told = inv.told;
-      same = rw inv.same refl;
+      told = c.requires.told;
+      within = record { order = within.order; bound = within.bound; later = within.later };
+      verbs = λ place verb at lacks k cursor. omega (arith, c.whole_walk-walk.ensures.first);
+      same = refl;
     }
+
+pub loop-no-preserved : goal.loop-no-preserved
+loop-no-preserved c =
+    let within = c.in-Some.ensures.within in
+    let g = read_some c.args.index.now.grants c.in-Some.no c.in-Some.ensures.number in
+    record {
+      told = c.add_grant.ensures.told;
+      within = rw c.add_grant.ensures.same (record { order = within.order; bound = within.bound; later = within.later });
+      verbs = passes_grant c.args.index.now c.args.universe.now (line_of c.args.line) c.loop-no.self.verbs.words.items c.add_grant.new.self.verbs.words.items c.loop-no.walk c.next_bound.new.walk c.in-Some.no g.0 c.in-Some.ensures.found g.1 (c.add_grant.ensures.adds g.0 g.1) c.loop-no.invariant.verbs;
+      same = rw (c.add_grant.ensures.same, c.loop-no.invariant.same) refl;
+    }
+
+pub returns-clause-verbs : goal.returns-clause-verbs
+returns-clause-verbs c = λ place verb at lacks k cursor.
+    c.in_default.ensures.found k (c.loop-no.invariant.verbs place verb at lacks k cursor) (bound_of_verb c.args.index.now (line_of c.args.line) verb k (cursor_bound c.args.index.now (line (line_of c.args.line).who (line_of c.args.line).namespace verb) k cursor))

@@ -1,0 +1,26 @@
+-- Sets of places of verbs, as words of bits.
+use Rattle.std.specs.Prelude.{◌≡◌, ℕ, ◌*◌, ◌/◌, ◌%◌, ◌<◌, ◌≤◌, List, Some, length, slice_get}
+use Rattle.std.specs.List.{slice_index_or}
+use Rattle.rbac_terms.specs.Text.{Text}
+use Rattle.rbac_terms.specs.Matching.{VerbOk}
+use Rattle.rbac_terms.specs.declared.matching.Rule.{Rule}
+use Rattle.rbac_matrix.specs.GrantVerbs.{HasBit}
+
+-- the set has room for the place
+abbrev pub IsRoom : List ℕ → ℕ → Type 0
+IsRoom words place = place < 64 * length words
+
+-- the place is in the set: its bit is 1
+abbrev pub HasPlace : List ℕ → ℕ → Type 0
+HasPlace words place = HasBit (slice_index_or words (place / 64) 0) (place % 64)
+
+-- the set has room for the place, which isn't in
+abbrev pub LacksPlace : List ℕ → ℕ → Type 0
+LacksPlace words place = IsRoom words place × (¬ HasPlace words place)
+
+-- as far as the new set has room, it has the places of the old one and those of the rule's verbs
+pub record AddsVerbs (r : Rule) (verbs : List Text) (old new : List ℕ) : Type 0 where
+  pub room : length new ≤ length old
+  pub kept : (place : ℕ) → IsRoom new place → HasPlace old place → HasPlace new place
+  pub more : (place : ℕ) (verb : Text) → IsRoom new place → slice_get verbs place ≡ Some verb
+      → VerbOk r verb → HasPlace new place
