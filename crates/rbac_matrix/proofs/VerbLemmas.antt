@@ -97,6 +97,13 @@ module _ (ws verbs : List Text) (old : List ℕ) where
       ];
     }
 
+-- what wasn't lacking isn't lacking later
+pub still_had : (r : Rule) (verbs : List Text) (old new : List ℕ) → AddsVerbs r verbs old new → (before after : ℕ) → ((at : ℕ) → at < before → LacksPlace old at → ⊥) → ((at : ℕ) → before ≤ at → at < after → LacksPlace new at → ⊥) → (at : ℕ) → at < after → LacksPlace new at → ⊥
+still_had r verbs old new adds before after had later at lt lacks = elim (cases_lt at before) [
+  | inl first ↦ had at first (omega (arith, lacks.0, adds.room), λ has. lacks.1 (adds.kept at lacks.0 has))
+  | inr from ↦ later at from lt lacks
+]
+
 -- one more grant of a line was looked at: what is lacking now was lacking, and the grant doesn't have it
 pub passes_grant : (p : PolicyView) (u : UniverseView) (l : LineView) (old new : List ℕ) (w v : Walk) (number : ℕ) (g : GrantView) → IsNextBound p l w v number → slice_get p.grants number ≡ Some g → AddsVerbs g.rule.rule u.verbs old new
     → ((at : ℕ) (verb : Text) → slice_get u.verbs at ≡ Some verb → LacksPlace old at → (k : ℕ) → IsCursorAt p (line l.who l.namespace verb) k → w.next ≤ k)

@@ -91,7 +91,8 @@ impl Runs {
         self.is_bare = !subjects.has_role_bindings(line.namespace);
     }
 
-    // Fills in which verbs these grants have: all of them, and each of the first of them.
+    // Fills in which verbs these grants have: all of them, and each of the first of them. Past those
+    // there is nothing to look for once no verb is lacking.
     fn fill_verbs(&mut self, index: &Index<'_>, universe: &Universe, line: Line<'_>)
         requires runs { AreRuns index.now (line_of line) self.old }
         requires told { KeepGrantVerbs index.now universe.now self.old }
@@ -100,12 +101,18 @@ impl Runs {
         ensures told { KeepGrantVerbs index.now universe.now self.new }
         ensures same { self.new ≡ record self.old { grants = self.new.grants; verbs = self.new.verbs } }
     {
-        self.verbs.clear(universe.verbs().len());
+        let all = universe.verbs().len();
+        self.verbs.clear(all);
         let mut walk = whole_walk();
         let mut nth: usize = 0;
+        let mut had = 0;
         while let Some(no) = next_bound(index, line, self, &mut walk) {
             self.add_grant(index, universe, nth, no);
             nth = nth.saturating_add(1);
+            had = self.verbs.past_had(had, all);
+            if had == all && MOST_GRANTS <= nth {
+                return;
+            }
         }
     }
 

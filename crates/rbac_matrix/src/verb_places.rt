@@ -107,6 +107,24 @@ impl VerbPlaces {
         at < self.words.len() && (self.words.as_slice()[at] >> (place % PLACES)) & 1 == 0
     }
 
+    // The first place from this one on, and before `end`, that is lacking; `end`, if there is none.
+    pub(crate) fn past_had(&self, from: usize, end: usize) -> usize
+        requires { from ≤ end }
+        ensures within { (from ≤ result) × (result ≤ end) }
+        ensures had { (place : ℕ) → from ≤ place → place < result
+            → ¬ LacksPlace self.now.words.items place }
+        ensures lacking { result < end → LacksPlace self.now.words.items result }
+    {
+        let mut place = from;
+        while place < end {
+            if self.lack(place) {
+                return place;
+            }
+            place += 1;
+        }
+        place
+    }
+
     // A place from this one on: those before it are lacking, as `lack` tells. It is in, or there is no
     // room for it.
     pub(crate) fn next(&self, from: usize) -> usize

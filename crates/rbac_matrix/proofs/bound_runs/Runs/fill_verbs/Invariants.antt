@@ -1,4 +1,4 @@
-use Rattle.std.proofs.Common.{◌≡◌, ◌≤◌, ℕ}
+use Rattle.std.proofs.Common.{◌≡◌, ◌<◌, ◌≤◌, ℕ}
 use Rattle.std.specs.Prelude.{Some, slice_get}
 use Rattle.rbac_terms.specs.Text.{Text}
 use Rattle.rbac_matrix.specs.Shown.{line_of}
@@ -12,6 +12,8 @@ invariant-loop-no l = record {
   told : KeepGrantVerbs l.index l.universe l.self;
   within : IsWithin l.index (line_of l.line) l.self l.walk;
   verbs : (place : ℕ) (verb : Text) → slice_get l.universe.verbs place ≡ Some verb → LacksPlace l.self.verbs.words.items place → (k : ℕ) → IsCursorAt l.index (line (line_of l.line).who (line_of l.line).namespace verb) k → l.walk.next ≤ k;
+  within_all : l.had ≤ l.all;
+  had : (place : ℕ) → place < l.had → LacksPlace l.self.verbs.words.items place → ⊥;
   same : l.self ≡ record l.fn.self { grants = l.self.grants; verbs = l.self.verbs };
 }
 
