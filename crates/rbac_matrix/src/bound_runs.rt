@@ -109,11 +109,25 @@ impl Runs {
         while let Some(no) = next_bound(index, line, self, &mut walk) {
             self.add_grant(index, universe, nth, no);
             nth = nth.saturating_add(1);
-            had = self.verbs.past_had(had, all);
-            if had == all && MOST_GRANTS <= nth {
+            had = self.past_had(nth, had, all);
+            if had == all {
                 return;
             }
         }
+    }
+
+    // A place up to which no verb is lacking, given one. No other is looked for at the first grants: the
+    // walk goes on, since it is kept which verbs each of them has.
+    fn past_had(&self, nth: usize, had: usize, all: usize) -> usize
+        requires { had ≤ all }
+        ensures within { result ≤ all }
+        ensures had { (place : ℕ) → had ≤ place → place < result
+            → ¬ LacksPlace self.now.verbs.words.items place }
+    {
+        if nth < MOST_GRANTS {
+            return had;
+        }
+        self.verbs.past_had(had, all)
     }
 
     // Fills in which verbs this grant has, the nth of these.

@@ -28,13 +28,13 @@ loop-no-preserved c =
       told = c.add_grant.ensures.told;
       within = rw c.add_grant.ensures.same (record { order = within.order; bound = within.bound; later = within.later });
       verbs = passes_grant c.args.index.now c.args.universe.now (line_of c.args.line) c.loop-no.self.verbs.words.items c.add_grant.new.self.verbs.words.items c.loop-no.walk c.next_bound.new.walk c.in-Some.no g.0 c.in-Some.ensures.found g.1 adds c.loop-no.invariant.verbs;
-      within_all = c.past_had-had.ensures.within.1;
+      within_all = c.past_had-had.ensures.within;
       had = still_had g.0.rule.rule c.args.universe.now.verbs c.loop-no.self.verbs.words.items c.add_grant.new.self.verbs.words.items adds c.loop-no.had c.past_had-had.result c.loop-no.invariant.had c.past_had-had.ensures.had;
       same = rw (c.add_grant.ensures.same, c.loop-no.invariant.same) refl;
     }
 
-pub returns-then-nth-ge-MOST_GRANTS-clause-verbs : goal.returns-then-nth-ge-MOST_GRANTS-clause-verbs
-returns-then-nth-ge-MOST_GRANTS-clause-verbs c = λ place verb at lacks.
+pub returns-then-had-all-clause-verbs : goal.returns-then-had-all-clause-verbs
+returns-then-had-all-clause-verbs c = λ place verb at lacks.
     let g = read_some c.args.index.now.grants c.in-Some.no c.in-Some.ensures.number in
     let within = slice_get_within c.args.universe.now.verbs place verb at in
     absurd (still_had g.0.rule.rule c.args.universe.now.verbs c.loop-no.self.verbs.words.items c.add_grant.new.self.verbs.words.items (c.add_grant.ensures.adds g.0 g.1) c.loop-no.had c.past_had-had.result c.loop-no.invariant.had c.past_had-had.ensures.had place (omega (arith, within, c.if-had-all.true, ap length c.verbs-all.ensures.verbs)) lacks)
