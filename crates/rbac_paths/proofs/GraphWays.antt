@@ -1,13 +1,15 @@
 -- The paths between nodes are the ways through the graph of the nodes.
-use Rattle.std.proofs.Common.{◌≡◌, ◌∙◌, ◌<◌, ◌↔◌, ℕ, zero, suc, List, Some, Contains, AllPairs, slice_get, length, ap, ap₂, arith, inl, inr, subst, sym}
+use Rattle.std.proofs.Common.{◌≡◌, ◌≢◌, ◌∙◌, ◌⊎◌, ◌<◌, ◌↔◌, ℕ, zero, suc, List, MatchOption, None, Option, Some, Contains, AllPairs, slice_get, length, ap, ap₂, arith, inl, inr, refl, subst, sym}
 use Rattle.std.specs.Prelude.{get_or}
 use Rattle.std.specs.Ordering.{ordering_reverse}
 use Rattle.std.specs.declared.cmp.Ordering.TheVariants.{Less, Greater}
+use Rattle.std.proofs.Math.ListN.{get_or-eq_default}
 use Rattle.std.proofs.lemmas.Bool.{cases_lt}
 use Rattle.std.proofs.lemmas.Cmp.{nat_list_cmp_total}
 use Rattle.std.proofs.lemmas.Option.{same_Some, slice_get_within, slice_get-get_or, get_or_from_slice_get}
 use Rattle.rbac_terms.specs.Text.{text_cmp}
-use Rattle.rbac_ways.specs.Ways.{GraphView, IsEdge, IsLeastBefore, IsNearest, IsReachedIn}
+use Rattle.rbac_ways.specs.Ways.{AreStops, GraphView, IsEdge, IsLeastBefore, IsNearest, IsReachedIn, IsStop}
+use Rattle.rbac_ways.specs.declared.graph.Stop.{Stop}
 use Rattle.rbac_paths.specs.NodeLists.{node_text}
 use Rattle.rbac_paths.specs.Nodes.{NodeView}
 use Rattle.rbac_paths.specs.Paths.{IsBeforeOn, IsFewest, LeadsTo}
@@ -21,6 +23,28 @@ at_place ys y (j, low, is) = (j, slice_get-get_or ys j y low ∙ ap (λ (v : Nod
 
 pub at_low : (ys : List NodeView) (j : ℕ) (y : NodeView) → j < length ys → (z : NodeView) × (slice_get ys j ≡ Some z)
 at_low ys j y low = (get_or ys j y, slice_get-get_or ys j y low)
+
+pub one_less : (n : ℕ) → n ≢ 0 → (m : ℕ) × (n ≡ suc m)
+one_less zero differ = absurd (differ refl)
+one_less (suc m) differ = (m, refl)
+
+pub one_or_none : (o : Option Stop) → (o ≡ None) ⊎ ((s : Stop) × (o ≡ Some s))
+one_or_none None = inl refl
+one_or_none (Some s) = inr (s, refl)
+
+-- what a search says of each place
+module _ (g : GraphView) (starts : List ℕ) (stops : List (Option Stop)) (found : AreStops g starts stops) where
+  pub stop_is : (j : ℕ) (s : Stop) → get_or stops j None ≡ Some s → IsStop g starts j s
+  stop_is j s at = elim (cases_lt j (length stops)) [
+    | inl low ↦ subst (λ (o : Option Stop). MatchOption o ((n : ℕ) → IsReachedIn g starts n j → ⊥) (IsStop g starts j)) at (found.each j low)
+    | inr past ↦ absurd (let both : None ≡ Some s = sym (get_or-eq_default stops None past) ∙ at in cc)
+  ]
+
+  pub stop_there : (n j : ℕ) → j < length stops → IsReachedIn g starts n j → (s : Stop) × (get_or stops j None ≡ Some s)
+  stop_there n j low way = elim (one_or_none (get_or stops j None)) [
+    | inl none ↦ absurd (subst (λ (o : Option Stop). MatchOption o ((k : ℕ) → IsReachedIn g starts k j → ⊥) (IsStop g starts j)) none (found.each j low) n way)
+    | inr some ↦ some
+  ]
 
 -- no printed node is before itself, and of two one alone is before the other
 irreflexive : (y : NodeView) → text_cmp (node_text y) (node_text y) ≡ Less → ⊥

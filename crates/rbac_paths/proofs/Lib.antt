@@ -16,7 +16,7 @@ pub mod GivenGrants
 pub mod Giving
 pub mod GraphOf
 pub mod GraphWays
-pub mod Grants
+pub mod KeysApart
 pub mod Mapped
 pub mod NodeWords
 pub mod NodesAdded
@@ -24,12 +24,14 @@ pub mod NodesInOrder
 pub mod OnePaths
 pub mod OnePowers
 pub mod OneReason
+pub mod OneWays
 pub mod Others
 pub mod PathsFound
 pub mod PrincipalsWith
 pub mod Reasons
 pub mod RolePlaces
 pub mod RoleRules
+pub mod RowsOfStep
 pub mod RuleWords
 pub mod Scopes
 pub mod SharedWords
@@ -37,6 +39,8 @@ pub mod Taken
 pub mod Telling
 pub mod Tracing
 pub mod Untold
+pub mod WaysFound
+pub mod WaysTold
 pub mod WordsAdded
 pub mod WordsOfWhom
 pub mod WordsTaken

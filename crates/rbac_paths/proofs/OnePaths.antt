@@ -14,7 +14,8 @@ use Rattle.rbac_model.specs.Policies.{PolicyView}
 use Rattle.rbac_model.proofs.OneList.{one_list, one_of_name}
 use Rattle.rbac_paths.specs.NodeLists.{IsNode, node_text}
 use Rattle.rbac_paths.specs.Nodes.{NodeView, Somebody, ClusterRoleIn, OwnRole, EverythingIn}
-use Rattle.rbac_paths.specs.Paths.{ArePaths, ArePathsOf, GoesTo, IsBeforeOn, IsFewest, IsNearer, IsPath, LeadsTo, PathView}
+use Rattle.rbac_paths.specs.Paths.{ArePaths, ArePathsOf, ComesFirst, GoesTo, IsBeforeOn, IsFewest, IsPath, LeadsTo, PathView}
+use Rattle.rbac_paths.specs.Aims.{ToTakeOver}
 use Rattle.rbac_paths.specs.Reasons.{IsReason}
 use Rattle.rbac_paths.specs.Told.{IsFirstTold}
 use Rattle.rbac_paths.specs.declared.steps.Step.{Step}
@@ -78,9 +79,27 @@ module _ (p : PolicyView) (all others : List Who) (steps : List Step) (start : N
 
 -- ---- one list
 
--- paths are named by how many steps lead there, and where
+-- what is told is named by how many steps there are, and by its node
+module _ {X : Type 0} (count : X → ℕ) (node : X → NodeView) where
+  abbrev pub told_name : X → List Text
+  told_name x = (count x ∷ []) ∷ node_text (node x) ∷ []
+
+  pub told_less : (x y : X) → ComesFirst (count x) (count y) (node x) (node y) → by_name told_name x y ≡ Less
+  told_less x y (inl lt) = let e : Less ≡ nat_cmp (count x) (count y) = nat_cmp_is (count x) (count y) Less lt in rw (sym e) refl
+  told_less x y (inr (same, less)) = let e : Equal ≡ nat_cmp (count x) (count y) = nat_cmp_is (count x) (count y) Equal same in rw (sym e, less) refl
+
+-- of one node there is one number of steps that are the fewest
+pub one_count : (R : NodeView → NodeView → Type 0) (S : NodeView → Type 0) (n m : ℕ) (y : NodeView) → IsFewest R S n y → IsFewest R S m y → n ≡ m
+one_count R S n m y a b = elim (cases_order n m) [
+  | inl e ↦ e
+  | inr d ↦ elim d [
+    | inl lt ↦ absurd (b.fewest n lt a.leads)
+    | inr lt ↦ absurd (a.fewest m lt b.leads)
+  ]
+]
+
 abbrev path_name : PathView → List Text
-path_name x = (x.count ∷ []) ∷ node_text x.node ∷ []
+path_name = told_name (λ (x : PathView). x.count) (λ (x : PathView). x.node)
 
 module _ (p : PolicyView) (all : List Who) (steps : List Step) (start : NodeView) where
   abbrev R : NodeView → NodeView → Type 0
@@ -89,21 +108,8 @@ module _ (p : PolicyView) (all : List Who) (steps : List Step) (start : NodeView
   abbrev S : NodeView → Type 0
   S y = y ≡ start
 
-  one_count : (n m : ℕ) (y : NodeView) → IsFewest R S n y → IsFewest R S m y → n ≡ m
-  one_count n m y a b = elim (cases_order n m) [
-    | inl e ↦ e
-    | inr d ↦ elim d [
-      | inl lt ↦ absurd (b.fewest n lt a.leads)
-      | inr lt ↦ absurd (a.fewest m lt b.leads)
-    ]
-  ]
-
-  named_less : (x y : PathView) → IsNearer x y → by_name path_name x y ≡ Less
-  named_less x y (inl lt) = let e : Less ≡ nat_cmp x.count y.count = nat_cmp_is x.count y.count Less lt in rw (sym e) refl
-  named_less x y (inr (same, less)) = let e : Equal ≡ nat_cmp x.count y.count = nat_cmp_is x.count y.count Equal same in rw (sym e, less) refl
-
   ascend : (xs : List PathView) → ArePaths p all steps start xs → IsAscendingBy path_name xs
-  ascend xs are i j d lt l = named_less (get_or xs i d) (get_or xs j d) (are.ordered i j d lt l)
+  ascend xs are i j d lt l = told_less (λ (x : PathView). x.count) (λ (x : PathView). x.node) (get_or xs i d) (get_or xs j d) (are.ordered i j d lt l)
 
   -- what is reached, but the start, is listed
   listed : (xs : List PathView) → ArePaths p all steps start xs → (n : ℕ) (y : NodeView) → IsFewest R S (suc n) y → (x : PathView) × Contains xs x × (x.node ≡ y) × (x.count ≡ suc n)
@@ -111,7 +117,7 @@ module _ (p : PolicyView) (all : List Who) (steps : List Step) (start : NodeView
       let w = are.complete (suc n) y (λ e. few.fewest 0 (omega arith) e) few.leads in
       let x = w.1 in
       let is : IsPath p all steps start x = subst (IsPath p all steps start) w.3 (are.each w.0 x w.2) in
-      (x, (w.0, w.2, w.3), w.4, one_count x.count (suc n) y (subst (IsFewest R S x.count) w.4 is.fewest) few)
+      (x, (w.0, w.2, w.3), w.4, one_count R S x.count (suc n) y (subst (IsFewest R S x.count) w.4 is.fewest) few)
 
   -- nodes that as many steps lead to and that are printed alike are one
   one_alike : (xs : List PathView) → ArePaths p all steps start xs → (n : ℕ) (y z : NodeView) → IsFewest R S n y → IsFewest R S n z → node_text y ≡ node_text z → y ≡ z
@@ -133,15 +139,15 @@ module _ (p : PolicyView) (all : List Who) (steps : List Step) (start : NodeView
   one_path : (xs : List PathView) → ArePaths p all steps start xs → (x z : PathView) → IsPath p all steps start x → IsPath p all steps start z → x.node ≡ z.node → x ≡ z
   one_path xs are x z a b e =
       let few : IsFewest R S z.count x.node = subst (IsFewest R S z.count) (sym e) b.fewest in
-      let counts : x.count ≡ z.count = one_count x.count z.count x.node a.fewest few in
+      let counts : x.count ≡ z.count = one_count R S x.count z.count x.node a.fewest few in
       let others : b.others ≡ a.others = omega (arith, counts, a.count, b.count) in
       let there : IsBeforeOn R S a.others x.node z.before = subst (λ n. IsBeforeOn R S n x.node z.before) others (subst (λ y. IsBeforeOn R S b.others y z.before) (sym e) b.before) in
       let befores : x.before ≡ z.before = one_before xs are a.others x.node x.before z.before a.before there (text_cmp (node_text x.before) (node_text z.before)) refl in
       let told : IsFirstTold p steps x.before x.node z.step = subst (λ y. IsFirstTold p steps y x.node z.step) (sym befores) (subst (λ y. IsFirstTold p steps z.before y z.step) (sym e) b.step) in
       let step : x.step ≡ z.step = same_first _ steps a.step.0 told.0 x.step z.step a.step.1 told.1 in
-      let why : IsReason p x.before x.step x.node z.reason = subst (λ s. IsReason p x.before s x.node z.reason) (sym step)
-      (subst (λ y. IsReason p y z.step x.node z.reason) (sym befores) (subst (λ y. IsReason p z.before z.step y z.reason) (sym e) b.reason)) in
-      let reason : x.reason ≡ z.reason = one_reason p x.before x.step x.node x.reason z.reason a.reason why in
+      let why : IsReason p x.before (ToTakeOver x.step x.node) z.reason = subst (λ s. IsReason p x.before (ToTakeOver s x.node) z.reason) (sym step)
+      (subst (λ y. IsReason p y (ToTakeOver z.step x.node) z.reason) (sym befores) (subst (λ y. IsReason p z.before (ToTakeOver z.step y) z.reason) (sym e) b.reason)) in
+      let reason : x.reason ≡ z.reason = one_reason p x.before (ToTakeOver x.step x.node) x.reason z.reason a.reason why in
       λ i. record { count = counts i; node = e i; before = befores i; step = step i; reason = reason i }
 
   into : (xs ys : List PathView) → ArePaths p all steps start xs → ArePaths p all steps start ys → (x : PathView) → Contains xs x → Contains ys x

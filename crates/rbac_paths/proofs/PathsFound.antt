@@ -1,9 +1,7 @@
 -- The paths that a search of the graph of nodes finds are those from somebody.
-use Rattle.std.proofs.Common.{◌≡◌, ◌≢◌, ◌↔◌, ◌∙◌, ◌⊎◌, ◌+◌, ◌<◌, ℕ, zero, suc, List, Option, None, Some, IsSome, MatchOption, All, Any, Contains, ap, arith, get_or, inl, inr, length, refl, slice_get, subst, sym}
+use Rattle.std.proofs.Common.{◌≡◌, ◌≢◌, ◌↔◌, ◌∙◌, ◌+◌, ◌<◌, ℕ, suc, List, Option, None, Some, IsSome, All, Any, Contains, ap, arith, get_or, inl, inr, length, refl, slice_get, subst, sym}
 use Rattle.std.specs.Ordering.{is_lt, ordering_reverse}
 use Rattle.std.specs.List.Sorted.{IsSorted, IsStrictlySortedBy}
-use Rattle.std.proofs.Math.ListN.{get_or-eq_default}
-use Rattle.std.proofs.lemmas.Bool.{cases_lt}
 use Rattle.std.proofs.lemmas.Cmp.{nat_list_cmp_total}
 use Rattle.std.proofs.lemmas.List.{get_or_default}
 use Rattle.std.proofs.lemmas.Map.Keys.{Less-from_sorted}
@@ -11,7 +9,7 @@ use Rattle.std.proofs.lemmas.Option.{same_Some}
 use Rattle.rbac_terms.specs.Principals.{Who, who_key}
 use Rattle.rbac_terms.specs.Text.{Text, text_cmp}
 use Rattle.rbac_model.specs.Policies.{IsPolicy, PolicyView}
-use Rattle.rbac_ways.specs.Ways.{AreInOrder, AreStops, GraphView, IsLeastBefore, IsReachedIn, IsStop}
+use Rattle.rbac_ways.specs.Ways.{AreInOrder, AreStops, GraphView, IsLeastBefore, IsReachedIn}
 use Rattle.rbac_ways.specs.declared.graph.Stop.{Stop}
 use Rattle.rbac_paths.specs.BoundNames.{AreBoundNames}
 use Rattle.rbac_paths.specs.NodeLists.{AreNodes, IsNamedOf, IsNode}
@@ -23,21 +21,13 @@ use Rattle.rbac_paths.specs.Told.{HasItsRole}
 use Rattle.rbac_paths.specs.Tracing.{AreLinked, ArePathsAt, HasKeyAt, HasKeyOf, IsPathAt}
 use Rattle.rbac_paths.specs.declared.steps.Step.{Step}
 use Rattle.rbac_paths.proofs.Closed.{HasOwnRole, cluster_role_bound, role_bound}
-use Rattle.rbac_paths.proofs.GraphWays.{IsGraphBy, among, at_low, before, fewest, leads, reached, within}
+use Rattle.rbac_paths.proofs.GraphWays.{IsGraphBy, among, at_low, before, fewest, leads, one_less, reached, stop_is, stop_there, within}
 
 -- names in order, each once, are in order
 pub in_order : (names : List Text) → IsStrictlySortedBy text_cmp names → IsSorted text_cmp names
 in_order names up k d low high =
     let less = Less-from_sorted text_cmp names k (k + 1) d up (omega arith) high in
     ap is_lt (nat_list_cmp_total.antisymm (get_or names (k + 1) d) (get_or names k d) ∙ ap ordering_reverse less)
-
-one_less : (n : ℕ) → n ≢ 0 → (m : ℕ) × (n ≡ suc m)
-one_less zero differ = absurd (differ refl)
-one_less (suc m) differ = (m, refl)
-
-one_or_none : (o : Option Stop) → (o ≡ None) ⊎ ((s : Stop) × (o ≡ Some s))
-one_or_none None = inl refl
-one_or_none (Some s) = inr (s, refl)
 
 module _ (p : PolicyView) (ok : IsPolicy p) (all : List Who) (names : List Text) (bound : AreBoundNames p.held names) (ys : List NodeView) (are : AreNodes p all names ys) where
   its_role : (y : NodeView) → IsNode p all y → HasItsRole p.held y
@@ -58,7 +48,7 @@ module _ (p : PolicyView) (ok : IsPolicy p) (all : List Who) (names : List Text)
       its_role y ((are.exact y).0 (k, low, get_or_default ys k y d low)).0
 
   module _ (steps : List Step) where
-    named : (x y : NodeView) → IsNode p all x → TakesOver p steps x y → IsNamedOf names y
+    pub named : (x y : NodeView) → IsNode p all x → TakesOver p steps x y → IsNamedOf names y
     named x (Somebody who) is takes = tt
     named x (ClusterRoleIn role scope) is takes = (bound.exact role.name).1 (cluster_role_bound p ok steps x (own_role x is) takes.0 role scope takes.1)
     named x (OwnRole role) is takes = (bound.exact role.name).1 (role_bound p ok steps x (own_role x is) takes.0 role takes.1)
@@ -110,16 +100,10 @@ module _ (p : PolicyView) (ok : IsPolicy p) (all : List Who) (names : List Text)
         abbrev stop_at : ℕ → Option Stop
         stop_at j = get_or stops j None
 
-        is_stop : (j : ℕ) (s : Stop) → stop_at j ≡ Some s → IsStop g starts j s
-        is_stop j s at = elim (cases_lt j (length stops)) [
-          | inl low ↦ subst (λ (o : Option Stop). MatchOption o ((n : ℕ) → IsReachedIn g starts n j → ⊥) (IsStop g starts j)) at (found.each j low)
-          | inr past ↦ absurd (let both : None ≡ Some s = sym (get_or-eq_default stops None past) ∙ at in cc)
-        ]
-
         pub linked : AreLinked p steps ys stops
         linked j s at led =
             let m = one_less s.edges led in
-            let is = is_stop j s at in
+            let is = stop_is g starts stops found j s at in
             let least = subst (λ (n : ℕ). IsLeastBefore g starts n j s.before) m.1 is.before in
             let x = at_low ys s.before (Somebody who) (within Goes IsStart ys g starts by_graph m.0 s.before least.0.leads) in
             let y = at_low ys j (Somebody who) (within Goes IsStart ys g starts by_graph s.edges j is.nearest.leads) in
@@ -130,7 +114,7 @@ module _ (p : PolicyView) (ok : IsPolicy p) (all : List Who) (names : List Text)
           is_path x j at =
               let s = at.stop in
               let m = one_less s.edges at.led in
-              let is = is_stop j s at.at in
+              let is = stop_is g starts stops found j s at.at in
               let least = subst (λ (n : ℕ). IsLeastBefore g starts n j s.before) m.1 is.before in
               record {
                 others = m.0;
@@ -144,12 +128,10 @@ module _ (p : PolicyView) (ok : IsPolicy p) (all : List Who) (names : List Text)
           some_path : (n j : ℕ) (y : NodeView) → y ≢ Somebody who → slice_get ys j ≡ Some y → IsReachedIn g starts n j → Any (λ x. x.node ≡ y) xs
           some_path n j y differ at way =
               let low : j < length stops = (let inside = within Goes IsStart ys g starts by_graph n j way in let nodes = graph.len in let len = found.len in omega (arith, inside, nodes, len)) in
-              elim (one_or_none (stop_at j)) [
-                | inl none ↦ absurd (subst (λ (o : Option Stop). MatchOption o ((k : ℕ) → IsReachedIn g starts k j → ⊥) (IsStop g starts j)) none (found.each j low) n way)
-                | inr some ↦ (elim (paths.has j ((ordered.exact j).1 (subst (λ (o : Option Stop). IsSome o) (sym some.1) refl))) [
-                  | inl unled ↦ absurd (differ (leads Goes IsStart ys g starts by_graph 0 j y at (subst (λ (k : ℕ). IsReachedIn g starts k j) (unled some.0 some.1) (is_stop j some.0 some.1).nearest.leads)))
-                  | inr path ↦ (path.0, path.1, path.2, path.3, same_Some path.1.node y (sym path.4.node ∙ at))
-                ])
+              let some = stop_there g starts stops found n j low way in
+              elim (paths.has j ((ordered.exact j).1 (subst (λ (o : Option Stop). IsSome o) (sym some.1) refl))) [
+                | inl unled ↦ absurd (differ (leads Goes IsStart ys g starts by_graph 0 j y at (subst (λ (k : ℕ). IsReachedIn g starts k j) (unled some.0 some.1) (stop_is g starts stops found j some.0 some.1).nearest.leads)))
+                | inr path ↦ (path.0, path.1, path.2, path.3, same_Some path.1.node y (sym path.4.node ∙ at))
               ]
 
           pub are_paths : ArePaths p all steps (Somebody who) xs

@@ -6,7 +6,6 @@ use Rattle.std.proofs.lemmas.List.{get_or_default, get_or-take, length-take}
 use Rattle.std.proofs.lemmas.List.Elements.{Contains-append_left, Contains-push, Contains-push_cases}
 use Rattle.std.proofs.lemmas.List.Quantifiers.{all_pairs_push}
 use Rattle.std.proofs.lemmas.Option.{get_or_from_slice_get, same_Some, slice_get_within}
-use Rattle.rbac_terms.specs.Principals.{Who}
 use Rattle.rbac_terms.specs.Text.{text_cmp}
 use Rattle.rbac_model.proofs.LabelSets.{any_push}
 use Rattle.rbac_model.specs.Policies.{PolicyView}
@@ -14,9 +13,9 @@ use Rattle.rbac_ways.specs.Ways.{AreInOrder, IsMetBefore}
 use Rattle.rbac_ways.specs.declared.graph.Stop.{Stop}
 use Rattle.rbac_paths.specs.NodeLists.{node_text}
 use Rattle.rbac_paths.specs.Nodes.{NodeView}
-use Rattle.rbac_paths.specs.Paths.{IsNearer, PathView}
+use Rattle.rbac_paths.specs.Paths.{ComesFirst, IsNearer, PathView}
 use Rattle.rbac_paths.specs.TakingOver.{TakesOver}
-use Rattle.rbac_paths.specs.Tracing.{AreLinked, ArePathsAt, HasKeyAt, HasKeyOf, IsPathAt, IsUnled}
+use Rattle.rbac_paths.specs.Tracing.{AreLinked, AreToldAt, IsAt, IsPathAt, IsUnled}
 use Rattle.rbac_paths.specs.declared.steps.Step.{Step}
 
 -- ---- places below a bound, one after another
@@ -56,8 +55,9 @@ module _ (P : ℕ → Type 0) where
   pub all_below : (bound : ℕ) (js : List ℕ) → ((j : ℕ) → P j → j < bound) → AreBelow P bound js → (j : ℕ) → Contains js j ↔ P j
   all_below bound js within below j = (λ c. ((below j).0 c).1, λ is. (below j).1 (within j is, is))
 
-pub keyed_here : (ys : List NodeView) (who : Who) (j : ℕ) (y : NodeView) → slice_get ys j ≡ Some y → HasKeyAt ys who j → HasKeyOf who y
-keyed_here ys who j y at has = subst (HasKeyOf who) (same_Some has.0 y (sym has.1 ∙ at)) has.2
+-- a node of this kind is at the place, so the node there is one
+pub is_here : (Is : NodeView → Type 0) (ys : List NodeView) (j : ℕ) (y : NodeView) → slice_get ys j ≡ Some y → IsAt Is ys j → Is y
+is_here Is ys j y at has = subst Is (same_Some has.0 y (sym has.1 ∙ at)) has.2
 
 -- ---- one path
 
@@ -65,6 +65,10 @@ keyed_here ys who j y at has = subst (HasKeyOf who) (same_Some has.0 y (sym has.
 pub matched_none : {X : Type 0} (o : Option X) (N : Type 0) (P : X → Type 0) → ((x : X) → o ≡ Some x → ⊥) → MatchOption o N P → N
 matched_none None N P none m = m
 matched_none (Some x) N P none m = absurd (none x refl)
+
+pub matched : {X : Type 0} (o : Option X) (N : Type 0) (P : X → Type 0) → (o ≡ None → N) → ((x : X) → o ≡ Some x → P x) → MatchOption o N P
+matched None N P none some = none refl
+matched (Some x) N P none some = some x refl
 
 pub matched_some : {X : Type 0} (o : Option X) (N : Type 0) (P : X → Type 0) (x : X) → o ≡ Some x → MatchOption o N P → P x
 matched_some {X = X} o N P x is m = subst (λ (v : Option X). MatchOption v N P) is m
@@ -88,57 +92,63 @@ module _ (p : PolicyView) (steps : List Step) (ys : List NodeView) (stops : List
   -- ---- several
 
   module _ (up : AllPairs (λ y z. text_cmp (node_text y) (node_text z) ≡ Less) ys) where
-    abbrev Path : ℕ → PathView → Type 0
-    Path j x = IsPathAt p steps ys stops j x
-
     printed : (i j : ℕ) (x y : NodeView) → i < j → slice_get ys i ≡ Some x → slice_get ys j ≡ Some y → text_cmp (node_text x) (node_text y) ≡ Less
     printed i j x y low at there =
         ap₂ (λ (a : NodeView) (b : NodeView). text_cmp (node_text a) (node_text b)) (sym (get_or_from_slice_get ys i x x at)) (sym (get_or_from_slice_get ys j y x there)) ∙ up i j x low (slice_get_within ys j y there)
 
-    nearer : (i j : ℕ) (x y : PathView) → IsMetBefore stops i j → Path i x → Path j y → IsNearer x y
-    nearer i j x y met a b =
-        let first : x.count ≡ met.0.edges = a.count ∙ ap (λ (s : Stop). s.edges) (same_Some a.stop met.0 (sym a.at ∙ met.2)) in
-        let second : y.count ≡ met.1.edges = b.count ∙ ap (λ (s : Stop). s.edges) (same_Some b.stop met.1 (sym b.at ∙ met.3)) in
+    -- of two nodes the one that is met first comes first
+    pub first_met : (i j : ℕ) (s t : Stop) (x y : NodeView) → IsMetBefore stops i j → stop_at i ≡ Some s → stop_at j ≡ Some t → slice_get ys i ≡ Some x → slice_get ys j ≡ Some y
+        → ComesFirst s.edges t.edges x y
+    first_met i j s t x y met first second here there =
+        let one : s.edges ≡ met.0.edges = ap (λ (v : Stop). v.edges) (same_Some s met.0 (sym first ∙ met.2)) in
+        let two : t.edges ≡ met.1.edges = ap (λ (v : Stop). v.edges) (same_Some t met.1 (sym second ∙ met.3)) in
         elim met.4 [
-          | inl fewer ↦ inl (omega (arith, fewer, first, second))
-          | inr same ↦ inr (first ∙ same.0 ∙ sym second, printed i j x.node y.node same.1 a.node b.node)
+          | inl fewer ↦ inl (omega (arith, fewer, one, two))
+          | inr same ↦ inr (one ∙ same.0 ∙ sym two, printed i j x y same.1 here there)
         ]
 
-    pub paths_none : (xs : List PathView) → xs ≡ [] → ArePathsAt p steps ys stops [] xs
-    paths_none xs empty = record {
-      each = λ x c. absurd (let low = (subst (λ (zs : List PathView). Contains zs x) empty c).1 in omega (arith, low));
-      has = λ j c. absurd (let low = c.1 in omega (arith, low));
-      ordered = λ i j d low within. absurd (let len = ap length empty in omega (arith, low, within, len));
+    pub nearer : (i j : ℕ) (x y : PathView) → IsMetBefore stops i j → IsPathAt p steps ys stops i x → IsPathAt p steps ys stops j y → IsNearer x y
+    nearer i j x y met a b =
+        subst (λ (n : ℕ). ComesFirst n y.count x.node y.node) (sym a.count)
+        (subst (λ (m : ℕ). ComesFirst a.stop.edges m x.node y.node) (sym b.count) (first_met i j a.stop b.stop x.node y.node met a.at b.at a.node b.node))
+
+-- what is told at places, one after another
+module _ {X : Type 0} (IsAt : ℕ → X → Type 0) (IsPassed : ℕ → Type 0) (ComesBefore : X → X → Type 0) where
+  pub told_none : (xs : List X) → xs ≡ [] → AreToldAt IsAt IsPassed ComesBefore [] xs
+  told_none xs empty = record {
+    each = λ x c. absurd (let low = (subst (λ (zs : List X). Contains zs x) empty c).1 in omega (arith, low));
+    has = λ j c. absurd (let low = c.1 in omega (arith, low));
+    ordered = λ i j d low within. absurd (let len = ap length empty in omega (arith, low, within, len));
+  }
+
+  module _ (places : List ℕ) (place : ℕ) (xs : List X) (are : AreToldAt IsAt IsPassed ComesBefore places xs) where
+    each_before : (x : X) → Contains xs x → (j : ℕ) × Contains (places ++ place ∷ []) j × IsAt j x
+    each_before x c = let w = are.each x c in (w.0, Contains-append_left places (place ∷ []) w.0 w.1, w.2)
+
+    pub told_same : IsPassed place → AreToldAt IsAt IsPassed ComesBefore (places ++ place ∷ []) xs
+    told_same passed = record {
+      each = each_before;
+      has = λ j c. elim (Contains-push_cases places place j c) [
+        | inl old ↦ are.has j old
+        | inr same ↦ inl (subst IsPassed same passed)
+      ];
+      ordered = are.ordered;
     }
 
-    module _ (places : List ℕ) (place : ℕ) (xs : List PathView) (are : ArePathsAt p steps ys stops places xs) where
-      each_before : (x : PathView) → Contains xs x → (j : ℕ) × Contains (places ++ place ∷ []) j × Path j x
-      each_before x c = let w = are.each x c in (w.0, Contains-append_left places (place ∷ []) w.0 w.1, w.2)
-
-      pub paths_same : IsUnled stops place → ArePathsAt p steps ys stops (places ++ place ∷ []) xs
-      paths_same unled = record {
-        each = each_before;
-        has = λ j c. elim (Contains-push_cases places place j c) [
-          | inl old ↦ are.has j old
-          | inr same ↦ inl (subst (IsUnled stops) same unled)
-        ];
-        ordered = are.ordered;
-      }
-
-      pub paths_more : ((j : ℕ) → Contains places j → IsMetBefore stops j place) → (x : PathView) → Path place x → ArePathsAt p steps ys stops (places ++ place ∷ []) (xs ++ x ∷ [])
-      paths_more later x is = record {
-        each = λ z c. elim (Contains-push_cases xs x z c) [
-          | inl old ↦ each_before z old
-          | inr same ↦ (place, Contains-push places place, subst (Path place) same is)
-        ];
-        has = λ j c. elim (Contains-push_cases places place j c) [
-          | inl old ↦ (elim (are.has j old) [ inl unled ↦ inl unled | inr some ↦ inr ((any_push (Path j) xs x).1 (inl some)) ])
-          | inr same ↦ inr ((any_push (Path j) xs x).1 (inr (subst (λ (k : ℕ). Path k x) same is)))
-        ];
-        ordered = all_pairs_push IsNearer xs x are.ordered (λ k d low.
-            let w = are.each (get_or xs k d) (k, low, get_or_default xs k (get_or xs k d) d low) in
-            nearer w.0 place (get_or xs k d) x (later w.0 w.1) w.2 is);
-      }
+    pub told_more : (x : X) → IsAt place x → ((j : ℕ) (z : X) → Contains places j → IsAt j z → ComesBefore z x) → AreToldAt IsAt IsPassed ComesBefore (places ++ place ∷ []) (xs ++ x ∷ [])
+    told_more x is later = record {
+      each = λ z c. elim (Contains-push_cases xs x z c) [
+        | inl old ↦ each_before z old
+        | inr same ↦ (place, Contains-push places place, subst (IsAt place) same is)
+      ];
+      has = λ j c. elim (Contains-push_cases places place j c) [
+        | inl old ↦ (elim (are.has j old) [ inl passed ↦ inl passed | inr some ↦ inr ((any_push (IsAt j) xs x).1 (inl some)) ])
+        | inr same ↦ inr ((any_push (IsAt j) xs x).1 (inr (subst (λ (k : ℕ). IsAt k x) same is)))
+      ];
+      ordered = all_pairs_push ComesBefore xs x are.ordered (λ k d low.
+          let w = are.each (get_or xs k d) (k, low, get_or_default xs k (get_or xs k d) d low) in
+          later w.0 (get_or xs k d) w.1 w.2);
+    }
 
 -- each node before a place of the order is met before the one there
 pub met_before : (stops : List (Option Stop)) (order : List ℕ) → AreInOrder stops order → (i place : ℕ) → i < length order → place ≡ get_or order i place → (j : ℕ) → Contains (take i order) j → IsMetBefore stops j place

@@ -1,4 +1,6 @@
+pub mod Access
 pub mod AddingNodes
+pub mod Aims
 pub mod Asked
 pub mod BoundNames
 pub mod Finding
@@ -20,3 +22,6 @@ pub mod TakingOver
 pub mod Telling
 pub mod Told
 pub mod Tracing
+pub mod TracingWays
+pub mod WayLines
+pub mod WaysTo

@@ -6,6 +6,7 @@ use Rattle.rbac_terms.specs.Text.{text_cmp}
 use Rattle.rbac_terms.specs.Principals.{Who}
 use Rattle.rbac_model.specs.Policies.{PolicyView}
 use Rattle.rbac_ways.specs.Ways.{GraphView, IsEdge}
+use Rattle.rbac_paths.specs.Aims.{ToTakeOver}
 use Rattle.rbac_paths.specs.NodeLists.{IsNode, node_text}
 use Rattle.rbac_paths.specs.Nodes.{NodeView, Somebody}
 use Rattle.rbac_paths.specs.Principals.{IsOneWith}
@@ -66,12 +67,15 @@ pub record IsPath (p : PolicyView) (all : List Who) (steps : List Step) (start :
   pub fewest : IsFewest (GoesTo p all steps) (λ y. y ≡ start) x.count x.node
   pub before : IsBeforeOn (GoesTo p all steps) (λ y. y ≡ start) others x.node x.before
   pub step : IsFirstTold p steps x.before x.node x.step
-  pub reason : IsReason p x.before x.step x.node x.reason
+  pub reason : IsReason p x.before (ToTakeOver x.step x.node) x.reason
+
+-- n steps, fewer than m, or as many, and then x is printed before y
+abbrev pub ComesFirst : ℕ → ℕ → NodeView → NodeView → Type 0
+ComesFirst n m x y = (n < m) ⊎ ((n ≡ m) × (text_cmp (node_text x) (node_text y) ≡ Less))
 
 -- fewer steps lead to x, or as many, and x is printed before y
 abbrev pub IsNearer : PathView → PathView → Type 0
-IsNearer x y = (x.count < y.count)
-    ⊎ ((x.count ≡ y.count) × (text_cmp (node_text x.node) (node_text y.node) ≡ Less))
+IsNearer x y = ComesFirst x.count y.count x.node y.node
 
 -- exactly the nodes that the start comes to, itself aside, in order of how many steps lead there, and
 -- then as printed (own)

@@ -1,4 +1,4 @@
--- Why one node takes over another.
+-- Why a node can take over another, or is allowed what is asked for.
 use Rattle.std.specs.Prelude.{◌≡◌, ℕ, ◌<◌, ◌≤◌, List, Option, Some, MatchOption, slice_get}
 use Rattle.rbac_terms.specs.Text.{Text}
 use Rattle.rbac_terms.specs.Granting.{Names}
@@ -8,12 +8,10 @@ use Rattle.rbac_model.specs.Lists.{IsFirstAt}
 use Rattle.rbac_model.specs.Policies.{AreRulesOf, GrantView, Held, PolicyView, Source}
 use Rattle.rbac_model.specs.Policies.{InRole, InClusterRole, SourcedRule}
 use Rattle.rbac_model.specs.Sources.{grant_of, source_of}
+use Rattle.rbac_paths.specs.Aims.{AimView, GrantServes, Serves}
 use Rattle.rbac_paths.specs.Nodes.{NodeView, Somebody, ClusterRoleIn, OwnRole, EverythingIn}
-use Rattle.rbac_paths.specs.Taking.{GrantTakes, RuleTakes}
-use Rattle.rbac_paths.specs.Told.{HoldingTakes, grant_holding}
 use Rattle.rbac_paths.specs.declared.reason.Reason.{Reason}
 use Rattle.rbac_paths.specs.declared.reason.Reason.TheVariants as by
-use Rattle.rbac_paths.specs.declared.steps.Step.{Step}
 
 -- by a grant, and a subject of its binding; by a rule, told by the role where it is written and its
 -- place there; or by having everything (own)
@@ -34,31 +32,40 @@ IsNamedAt g who at = (s : Subject)
     × IsFirstAt (λ s. Names s g.binding.namespace who) g.binding.subjects at s
 
 -- the rule at that place in that role is the first of the role's rules, of those that it gathers if it
--- is aggregated, that lets it take over y by the step where it is bound
-abbrev pub IsFirstRule : Held → Source → Option Text → Step → NodeView → Source → ℕ → Type 0
-IsFirstRule h role home step y source place = (rules : List SourcedRule) × AreRulesOf h role rules
-    × ((n : ℕ) × (r : SourcedRule) × IsFirstAt (λ r. RuleTakes step home r.rule y) rules n r
+-- is aggregated, that lets it where it is bound
+abbrev pub IsFirstRule : Held → Source → Option Text → AimView → Source → ℕ → Type 0
+IsFirstRule h role home aim source place = (rules : List SourcedRule) × AreRulesOf h role rules
+    × ((n : ℕ) × (r : SourcedRule) × IsFirstAt (λ r. Serves aim home r.rule) rules n r
     × (r.source ≡ source) × (r.place ≡ place))
 
--- why x takes over y by the step: somebody by the first grant that lets them, a role by its first rule
--- that lets it (own)
-abbrev pub IsReason : PolicyView → NodeView → Step → NodeView → ReasonView → Type 0
-IsReason p (Somebody who) step y (ByGrant g at) = IsNamedAt g who at
-    × ((n : ℕ) × IsFirstAt (GrantTakes who step y) p.grants n g)
-IsReason p (ClusterRoleIn role scope) step y (ByRule source place) =
-    IsFirstRule p.held (InClusterRole role) scope step y source place
-IsReason p (OwnRole role) step y (ByRule source place) =
-    IsFirstRule p.held (InRole role) (Some role.namespace) step y source place
-IsReason p (EverythingIn scope) step y ByAll = Unit {0}
-IsReason p _ step y _ = ⊥
+-- why x can: somebody by the first grant that lets them, a role by its first rule that lets it (own)
+abbrev pub IsReason : PolicyView → NodeView → AimView → ReasonView → Type 0
+IsReason p (Somebody who) aim (ByGrant g at) = IsNamedAt g who at
+    × ((n : ℕ) × IsFirstAt (GrantServes aim who) p.grants n g)
+IsReason p (ClusterRoleIn role scope) aim (ByRule source place) =
+    IsFirstRule p.held (InClusterRole role) scope aim source place
+IsReason p (OwnRole role) aim (ByRule source place) =
+    IsFirstRule p.held (InRole role) (Some role.namespace) aim source place
+IsReason p (EverythingIn scope) aim ByAll = Unit {0}
+IsReason p _ aim _ = ⊥
 
--- no rule of the grants numbered from `start` up to `end` takes over y by the step
-abbrev pub TakesNoneIn : PolicyView → Step → NodeView → ℕ → ℕ → Type 0
-TakesNoneIn p step y start end = (k : ℕ) (g : GrantView) → start ≤ k → k < end
-    → slice_get p.grants k ≡ Some g → ¬ HoldingTakes step (grant_holding g) y
+-- no grant before that number lets somebody
+abbrev pub NoneBefore : PolicyView → AimView → Who → ℕ → Type 0
+NoneBefore p aim who count = (k : ℕ) (g : GrantView) → k < count → slice_get p.grants k ≡ Some g
+    → ¬ GrantServes aim who g
+
+-- the first grant that lets somebody, if there is one
+abbrev pub AnswersFirstServing : PolicyView → AimView → Who → Option ℕ → Type 0
+AnswersFirstServing p aim who o = MatchOption o ((count : ℕ) → NoneBefore p aim who count)
+    (λ n. (g : GrantView) × IsFirstAt (GrantServes aim who) p.grants n g)
+
+-- no rule of the grants numbered from `start` up to `end` lets it where the grant is live
+abbrev pub NoneServesIn : PolicyView → AimView → ℕ → ℕ → Type 0
+NoneServesIn p aim start end = (k : ℕ) (g : GrantView) → start ≤ k → k < end
+    → slice_get p.grants k ≡ Some g → ¬ Serves aim g.binding.namespace g.rule.rule
 
 -- the first of these grants whose rule does, if there is one
-abbrev pub AnswersFirstIn : PolicyView → Step → NodeView → ℕ → ℕ → Option ℕ → Type 0
-AnswersFirstIn p step y start end o = MatchOption o (TakesNoneIn p step y start end)
+abbrev pub AnswersFirstIn : PolicyView → AimView → ℕ → ℕ → Option ℕ → Type 0
+AnswersFirstIn p aim start end o = MatchOption o (NoneServesIn p aim start end)
     (λ n. (g : GrantView) × (start ≤ n) × (n < end) × (slice_get p.grants n ≡ Some g)
-    × HoldingTakes step (grant_holding g) y × TakesNoneIn p step y start n)
+    × Serves aim g.binding.namespace g.rule.rule × NoneServesIn p aim start n)

@@ -1,12 +1,11 @@
 -- Which rules take over which nodes, by the rows of the table.
-use Rattle.std.specs.Prelude.{◌≡◌, ℕ, [], Option, Some, None, Any, Contains, slice_get}
+use Rattle.std.specs.Prelude.{◌≡◌, [], Option, Some, None, Any, Contains}
 use Rattle.rbac_terms.specs.Text.{Text}
-use Rattle.rbac_terms.specs.Principals.{Who, AsUser, AsMember}
+use Rattle.rbac_terms.specs.Principals.{AsUser, AsMember}
 use Rattle.rbac_terms.specs.Targets.{Resource}
 use Rattle.rbac_terms.specs.Matching.{RuleAllows}
 use Rattle.rbac_terms.specs.declared.matching.Rule.{Rule}
-use Rattle.rbac_model.specs.Lists.{IsFirstAt}
-use Rattle.rbac_model.specs.Policies.{BindingNames, GrantView, Live, PolicyView}
+use Rattle.rbac_model.specs.Policies.{Live, PolicyView}
 use Rattle.rbac_paths.specs.Having.{NodeAllows}
 use Rattle.rbac_paths.specs.Nodes.{NodeView, Somebody, ClusterRoleIn, OwnRole, EverythingIn}
 use Rattle.rbac_paths.specs.Nodes.{IsAccountNamed}
@@ -60,21 +59,6 @@ pub record RowTakes (row : RowView) (home : Option Text) (rule : Rule) (y : Node
 -- such a rule allows some request of the step that takes over the node
 abbrev pub RuleTakes : Step → Option Text → Rule → NodeView → Type 0
 RuleTakes step home rule y = Any (λ row. (row.step ≡ step) × RowTakes row home rule y) table
-
--- the grant lets somebody take over the node by the step: its binding names them, and its rule allows a
--- request of the step that takes it over
-abbrev pub GrantTakes : Who → Step → NodeView → GrantView → Type 0
-GrantTakes who step y g = BindingNames g.binding who
-    × RuleTakes step g.binding.namespace g.rule.rule y
-
--- no grant lets somebody take over the node by the step
-abbrev pub TakesNone : PolicyView → Who → Step → NodeView → Type 0
-TakesNone p who step y = (n : ℕ) (g : GrantView) → slice_get p.grants n ≡ Some g
-    → ¬ GrantTakes who step y g
-
--- the first grant that lets somebody take over the node by the step (own)
-abbrev pub IsFirstTaking : PolicyView → Who → Step → NodeView → ℕ → Type 0
-IsFirstTaking p who step y n = (g : GrantView) × IsFirstAt (GrantTakes who step y) p.grants n g
 
 -- x allows a request of the step that takes over y
 pub record CanTakeOver (p : PolicyView) (x : NodeView) (step : Step) (y : NodeView) : Type 0 where

@@ -4,6 +4,7 @@ use Rattle.std.specs.Prelude.{slice_get, slice_index_or}
 use Rattle.rbac_terms.specs.Principals.{Who, who_key}
 use Rattle.rbac_model.specs.Policies.{PolicyView}
 use Rattle.rbac_ways.specs.declared.graph.Stop.{Stop}
+use Rattle.rbac_paths.specs.Aims.{ToTakeOver}
 use Rattle.rbac_paths.specs.Nodes.{NodeView, Somebody, ClusterRoleIn, OwnRole, EverythingIn}
 use Rattle.rbac_paths.specs.Paths.{IsNearer, PathView}
 use Rattle.rbac_paths.specs.Reasons.{IsReason}
@@ -18,9 +19,13 @@ HasKeyOf who (ClusterRoleIn role scope) = ⊥
 HasKeyOf who (OwnRole role) = ⊥
 HasKeyOf who (EverythingIn scope) = ⊥
 
--- such a node is at the place
+-- a node of this kind is at the place
+abbrev pub IsAt : (NodeView → Type 0) → List NodeView → ℕ → Type 0
+IsAt Is ys j = (y : NodeView) × (slice_get ys j ≡ Some y) × Is y
+
+-- a node with that one's key is at the place
 abbrev pub HasKeyAt : List NodeView → Who → ℕ → Type 0
-HasKeyAt ys who j = (y : NodeView) × (slice_get ys j ≡ Some y) × HasKeyOf who y
+HasKeyAt ys who j = IsAt (HasKeyOf who) ys j
 
 -- x is at one place, y at the other, and x takes over y
 abbrev pub TakesAt : PolicyView → List Step → List NodeView → ℕ → ℕ → Type 0
@@ -46,12 +51,17 @@ pub record IsPathAt (p : PolicyView) (steps : List Step) (ys : List NodeView)
   pub node : slice_get ys j ≡ Some x.node
   pub before : slice_get ys stop.before ≡ Some x.before
   pub step : IsFirstTold p steps x.before x.node x.step
-  pub reason : IsReason p x.before x.step x.node x.reason
+  pub reason : IsReason p x.before (ToTakeOver x.step x.node) x.reason
+
+-- what is told at these places, but for those at which nothing is, in order
+pub record AreToldAt {X : Type 0} (IsAt : ℕ → X → Type 0) (IsPassed : ℕ → Type 0)
+    (ComesBefore : X → X → Type 0) (places : List ℕ) (xs : List X) : Type 0 where
+  pub each : (x : X) → Contains xs x → (j : ℕ) × Contains places j × IsAt j x
+  pub has : (j : ℕ) → Contains places j → IsPassed j ⊎ Any (IsAt j) xs
+  pub ordered : AllPairs ComesBefore xs
 
 -- the paths to the nodes at these places, but for those that no edge leads to, in order
-pub record ArePathsAt (p : PolicyView) (steps : List Step) (ys : List NodeView)
-    (stops : List (Option Stop)) (places : List ℕ) (xs : List PathView) : Type 0 where
-  pub each : (x : PathView) → Contains xs x
-      → (j : ℕ) × Contains places j × IsPathAt p steps ys stops j x
-  pub has : (j : ℕ) → Contains places j → IsUnled stops j ⊎ Any (IsPathAt p steps ys stops j) xs
-  pub ordered : AllPairs IsNearer xs
+abbrev pub ArePathsAt : PolicyView → List Step → List NodeView → List (Option Stop) → List ℕ
+    → List PathView → Type 0
+ArePathsAt p steps ys stops places xs =
+    AreToldAt (IsPathAt p steps ys stops) (IsUnled stops) IsNearer places xs

@@ -8,6 +8,7 @@ ghost use Rattle.rbac_model.specs.Lists.{IsAscendingBy};
 ghost use Rattle.rbac_model.specs.Policies.{IsPolicy};
 ghost use Rattle.rbac_model.specs.Unions.{who_name};
 ghost use Rattle.rbac_ways.specs.Ways.{AreInOrder};
+ghost use Rattle.rbac_paths.specs.Aims.{ToTakeOver};
 ghost use Rattle.rbac_paths.specs.Having.{rule_of_all};
 ghost use Rattle.rbac_paths.specs.NodeLists.{node_text};
 ghost use Rattle.rbac_paths.specs.Nodes.{node_of};
@@ -18,6 +19,7 @@ ghost use Rattle.rbac_paths.specs.Told.{HasItsRole, IsFirstTold};
 ghost use Rattle.rbac_paths.specs.Tracing.{AreLinked, ArePathsAt, HasKeyAt, HasKeyOf};
 ghost use Rattle.rbac_paths.specs.Tracing.{IsPathAt, IsUnled};
 
+use crate::aim::Aim;
 use crate::bound_names::bound_names;
 use crate::graph::graph_of;
 use crate::holding::{holdings_of, rule_of_all};
@@ -200,7 +202,7 @@ fn path_at<'p>(
 
 // The first of these steps by which a node takes over another, as is told, and why it is one; `None`
 // if there is none.
-fn last_step<'p>(
+pub(crate) fn last_step<'p>(
     alloc: Global,
     policy: &'p Policy,
     index: &SubjectIndex<'p>,
@@ -216,12 +218,13 @@ fn last_step<'p>(
     ensures { IfOk result (λ told. MatchOption told
         (¬ TakesOver policy.now steps.now (node_of from.entry) (node_of to.entry))
         (λ t. IsFirstTold policy.now steps.now (node_of from.entry) (node_of to.entry) t.0
-        × IsReason policy.now (node_of from.entry) t.0 (node_of to.entry) (reason_view t.1))) }
+        × IsReason policy.now (node_of from.entry) (ToTakeOver t.0 (node_of to.entry))
+        (reason_view t.1))) }
 {
     let Some(rows) = first_step(alloc, policy, index, all, steps, from, to)? else {
         return Ok(None);
     };
-    let Some(reason) = reason_of(alloc, policy, index, from, rows, to)? else {
+    let Some(reason) = reason_of(alloc, policy, index, from, Aim::TakeOver(rows, to))? else {
         return Ok(None);
     };
     Ok(Some((rows.step(), reason)))

@@ -2,8 +2,11 @@
 //! which.
 #![tactic(auto)]
 
+mod access;
+mod aim;
 mod all_paths;
 mod all_steps;
+mod all_ways;
 mod bound_names;
 mod finding;
 mod graph;
@@ -21,14 +24,18 @@ mod steps;
 mod table;
 mod taking;
 mod told;
+mod way_line;
 mod words;
 
+pub use access::Access;
 pub use all_paths::{Path, paths};
 pub use all_steps::powers;
-pub use laws::{paths_are_one, powers_are_one};
+pub use all_ways::{Next, Way, ways_to};
+pub use laws::{paths_are_one, powers_are_one, ways_are_one};
 pub use line::put_power;
 pub use node::Node;
 pub use path_line::put_path;
 pub use power::{Power, Powers};
 pub use reason::Reason;
 pub use steps::Step;
+pub use way_line::put_way;

@@ -33,7 +33,7 @@ pub fn put_path(line: &mut Vec<u8>, path: &Path<'_>) -> Result<(), AllocError>
 }
 
 // Adds a number in decimal digits, and the tab after it.
-fn put_count(line: &mut Vec<u8>, count: usize) -> Result<(), AllocError>
+pub(crate) fn put_count(line: &mut Vec<u8>, count: usize) -> Result<(), AllocError>
     ensures { OnOk result (line.new.items ≡ line.old.items ++ decimal count ++ tab ∷ []) }
 {
     let mut buffer = Buffer::new();
@@ -43,7 +43,11 @@ fn put_count(line: &mut Vec<u8>, count: usize) -> Result<(), AllocError>
 }
 
 // Adds why a node takes over another, to the end of the line.
-fn put_reason(line: &mut Vec<u8>, node: Node<'_>, reason: Reason<'_>) -> Result<(), AllocError>
+pub(crate) fn put_reason(
+    line: &mut Vec<u8>,
+    node: Node<'_>,
+    reason: Reason<'_>,
+) -> Result<(), AllocError>
     ensures { OnOk result (line.new.items
         ≡ line.old.items ++ reason_line (node_of node.entry) (reason_view reason.entry)) }
 {

@@ -1,24 +1,24 @@
-//! Why one node takes over another.
+//! Why a node can take over another, or is allowed what is asked for.
 
 ghost use Rattle.std.specs.Prelude.{◌≡◌, ◌≤◌, Any, Contains, IfOk, MatchOption, length};
 ghost use Rattle.std.specs.Option.{option_copied};
 ghost use Rattle.rbac_model.specs.Lists.{IsFirstAt};
 ghost use Rattle.rbac_model.specs.Policies.{IsPolicy};
+ghost use Rattle.rbac_paths.specs.Aims.{Attains, GrantServes, Serves, aim_of};
 ghost use Rattle.rbac_paths.specs.Nodes.{ClusterRoleIn, OwnRole, Somebody, node_of};
-ghost use Rattle.rbac_paths.specs.Reasons.{AnswersFirstIn, IsReason, reason_view};
-ghost use Rattle.rbac_paths.specs.Taking.{CanTakeOver, IsFirstTaking, RuleTakes, TakesNone};
+ghost use Rattle.rbac_paths.specs.Reasons.{AnswersFirstIn, AnswersFirstServing, IsReason, reason_view};
 ghost use Rattle.rbac_paths.specs.Told.{HasItsRole};
 ghost use Rattle.rbac_terms.specs.declared.matching.Rule.{Rule};
 
+use crate::aim::Aim;
 use crate::holding::{Holding, sources_of};
 use crate::node::Node;
-use crate::told::StepRows;
 use rbac_model::{Grant, Policy, SourceRole, naming_place};
 use rbac_subjects::SubjectIndex;
 use rbac_terms::{ClusterRole, Principal, Role, Rules, Word};
 use std::alloc::{AllocError, Global};
 
-/// Why one node takes over another by a step (own).
+/// Why a node can take over another by a step, or is allowed what is asked for (own).
 #[derive(Clone, Copy)]
 pub enum Reason<'p> {
     /// A user or a group by this grant, the first that lets it: with the place, from 0, of the first
@@ -31,68 +31,61 @@ pub enum Reason<'p> {
     All,
 }
 
-/// Why a node takes over another by a step; `None` only if it doesn't. Fails only if it runs out of
-/// memory.
-pub fn reason_of<'p>(
+/// Why a node can; `None` only if it can't. Fails only if it runs out of memory.
+pub(crate) fn reason_of<'p>(
     alloc: Global,
     policy: &'p Policy,
     index: &SubjectIndex<'p>,
     from: Node<'p>,
-    rows: &StepRows,
-    to: Node<'_>,
+    aim: Aim<'_>,
 ) -> Result<Option<Reason<'p>>, AllocError>
     requires policy { IsPolicy policy.now }
     requires index { index.now ≡ policy.now }
     requires role { HasItsRole policy.now.held (node_of from) }
     ensures { IfOk result (λ r. MatchOption r
-        (¬ CanTakeOver policy.now (node_of from.entry) rows.now (node_of to.entry))
-        (λ r. IsReason policy.now (node_of from.entry) rows.now (node_of to.entry)
-        (reason_view r))) }
+        (¬ Attains policy.now (node_of from.entry) (aim_of aim.entry))
+        (λ r. IsReason policy.now (node_of from.entry) (aim_of aim.entry) (reason_view r))) }
 {
     match from {
-        Node::Somebody(who) => Ok(by_grant(policy, index, rows, who, to)),
-        Node::ClusterRole(role, scope) => by_cluster_role(alloc, policy, rows, role, scope, to),
-        Node::Role(role) => Ok(by_role(policy, rows, role, to)),
+        Node::Somebody(who) => Ok(by_grant(policy, index, aim, who)),
+        Node::ClusterRole(role, scope) => by_cluster_role(alloc, policy, aim, role, scope),
+        Node::Role(role) => Ok(by_role(policy, aim, role)),
         Node::Everything(_) => Ok(Some(Reason::All)),
     }
 }
 
-// The grant by which somebody takes over a node.
+// The grant by which somebody can.
 fn by_grant<'p>(
     policy: &'p Policy,
     index: &SubjectIndex<'p>,
-    rows: &StepRows,
+    aim: Aim<'_>,
     who: &Principal,
-    to: Node<'_>,
 ) -> Option<Reason<'p>>
     requires policy { IsPolicy policy.now }
     requires index { index.now ≡ policy.now }
     ensures { MatchOption result
-        (¬ CanTakeOver policy.now (Somebody who.now) rows.now (node_of to.entry))
-        (λ r. IsReason policy.now (Somebody who.now) rows.now (node_of to.entry) (reason_view r)) }
+        (¬ Attains policy.now (Somebody who.now) (aim_of aim.entry))
+        (λ r. IsReason policy.now (Somebody who.now) (aim_of aim.entry) (reason_view r)) }
 {
-    let no = first_taking(policy, index, who, rows, to)?;
+    let no = first_serving(policy, index, who, aim)?;
     let grant = policy.grant(no);
     let subject = naming_place(grant.binding, who)?;
     Some(Reason::Grant(grant, subject))
 }
 
-// The number of the first grant by which somebody takes over a node.
-fn first_taking(
+// The number of the first grant by which somebody can.
+fn first_serving(
     policy: &Policy,
     index: &SubjectIndex<'_>,
     who: &Principal,
-    rows: &StepRows,
-    to: Node<'_>,
+    aim: Aim<'_>,
 ) -> Option<u32>
     requires { index.now ≡ policy.now }
-    ensures { MatchOption result
-        (TakesNone policy.now who.now rows.now (node_of to.entry))
-        (IsFirstTaking policy.now who.now rows.now (node_of to.entry)) }
+    ensures { AnswersFirstServing policy.now (aim_of aim.entry) who.now result }
 {
     let mut from = 0;
     while let Some((start, end)) = index.next_named(who, from) {
-        if let Some(no) = first_in_run(policy, start, end, rows, to) {
+        if let Some(no) = first_in_run(policy, start, end, aim) {
             return Some(no);
         }
         from = end;
@@ -100,67 +93,67 @@ fn first_taking(
     None
 }
 
-// The first of the grants numbered from `start` up to `end` whose rule takes over a node.
-fn first_in_run(policy: &Policy, start: u32, end: u32, rows: &StepRows, to: Node<'_>) -> Option<u32>
+// The first of the grants numbered from `start` up to `end` whose rule lets it.
+fn first_in_run(policy: &Policy, start: u32, end: u32, aim: Aim<'_>) -> Option<u32>
     requires ordered { start ≤ end }
     requires within { end ≤ length policy.now.grants }
-    ensures { AnswersFirstIn policy.now rows.now (node_of to.entry) start end result }
+    ensures { AnswersFirstIn policy.now (aim_of aim.entry) start end result }
 {
     for no in start..end {
-        if rows.is_taken_by(&Holding::by(policy.grant(no)), to) {
+        if aim.is_served_by(&Holding::by(policy.grant(no))) {
             return Some(no);
         }
     }
     None
 }
 
-// The rule by which a role takes over a node where it is bound.
-fn by_role<'p>(policy: &Policy, rows: &StepRows, role: &'p Role, to: Node<'_>) -> Option<Reason<'p>>
+// The rule by which a role can where it is bound.
+fn by_role<'p>(policy: &Policy, aim: Aim<'_>, role: &'p Role) -> Option<Reason<'p>>
+    requires { IsPolicy policy.now }
     ensures { MatchOption result
-        (¬ CanTakeOver policy.now (OwnRole role.now) rows.now (node_of to.entry))
-        (λ r. IsReason policy.now (OwnRole role.now) rows.now (node_of to.entry) (reason_view r)) }
+        (¬ Attains policy.now (OwnRole role.now) (aim_of aim.entry))
+        (λ r. IsReason policy.now (OwnRole role.now) (aim_of aim.entry) (reason_view r)) }
 {
-    let place = first_rule(rows, Some(&role.namespace), &role.rules, to)?;
+    let place = first_rule(aim, Some(&role.namespace), &role.rules)?;
     Some(Reason::Rule(SourceRole::Role(role), place))
 }
 
-// The rule by which a cluster role takes over a node where it is bound: its own, or one that it
-// gathers.
+// The rule by which a cluster role can where it is bound: its own, or one that it gathers.
 fn by_cluster_role<'p>(
     alloc: Global,
     policy: &'p Policy,
-    rows: &StepRows,
+    aim: Aim<'_>,
     role: &'p ClusterRole,
     scope: Option<&Word>,
-    to: Node<'_>,
 ) -> Result<Option<Reason<'p>>, AllocError>
-    requires { Contains policy.now.held.cluster_roles role.now }
+    requires policy { IsPolicy policy.now }
+    requires role { Contains policy.now.held.cluster_roles role.now }
     ensures { IfOk result (λ r. MatchOption r
-        (¬ CanTakeOver policy.now
-        (ClusterRoleIn role.now (option_copied scope.entry)) rows.now (node_of to.entry))
+        (¬ Attains policy.now
+        (ClusterRoleIn role.now (option_copied scope.entry)) (aim_of aim.entry))
         (λ r. IsReason policy.now
-        (ClusterRoleIn role.now (option_copied scope.entry)) rows.now (node_of to.entry)
+        (ClusterRoleIn role.now (option_copied scope.entry)) (aim_of aim.entry)
         (reason_view r))) }
 {
     let sources = sources_of(alloc, policy, role)?;
     for source in sources.as_slice() {
-        if let Some(place) = first_rule(rows, scope, &source.rules, to) {
+        if let Some(place) = first_rule(aim, scope, &source.rules) {
             return Ok(Some(Reason::Rule(SourceRole::ClusterRole(source), place)));
         }
     }
     Ok(None)
 }
 
-// The place of the first of these rules that takes over a node where a binding in this namespace, or
-// in none, is live.
-fn first_rule(rows: &StepRows, home: Option<&Word>, rules: &Rules, to: Node<'_>) -> Option<usize>
+// The place of the first of these rules that lets it where a binding in this namespace, or in none, is
+// live.
+fn first_rule(aim: Aim<'_>, home: Option<&Word>, rules: &Rules) -> Option<usize>
     ensures { MatchOption result
-        (¬ Any (λ r. RuleTakes rows.now (option_copied home.entry) r (node_of to.entry)) rules.now)
-        (λ at. (r : Rule) × IsFirstAt
-        (λ r. RuleTakes rows.now (option_copied home.entry) r (node_of to.entry)) rules.now at r) }
+        (¬ Any (Serves (aim_of aim.entry) (option_copied home.entry)) rules.now)
+        (λ at. (r : Rule)
+        × IsFirstAt (Serves (aim_of aim.entry) (option_copied home.entry)) rules.now at r) }
 {
     for (place, rule) in rules.as_slice().iter().enumerate() {
-        if rows.is_taken_by(&Holding { home, rule }, to) {
+        if aim.is_served_by(&Holding { home, rule }) {
             return Some(place);
         }
     }

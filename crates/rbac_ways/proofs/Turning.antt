@@ -7,6 +7,7 @@ use Rattle.std.proofs.lemmas.List.Elements.{Contains-append_left, Contains-appen
 use Rattle.rbac_ways.proofs.Meets.{of_pushed, one, pushed_here}
 use Rattle.rbac_ways.proofs.Edges.{in_none}
 use Rattle.rbac_ways.specs.Joining.{AddsToEach, AreTurned, IsListedAt}
+use Rattle.rbac_ways.specs.Ways.{GraphView, IsEdge}
 
 -- what is in a list at a place: the place is there
 pub listed_within : {X : Type 0} (lists : List (List X)) (i : ℕ) (x : X) → Contains (get_or lists i []) x → i < length lists
@@ -106,8 +107,22 @@ pub listed_all : (Has : ℕ → ℕ → Type 0) (count bound : ℕ) (lists : Lis
 listed_all Has count bound lists within below i j low = (λ h. ((below.each i j low).0 h).1, λ has. (below.each i j low).1 (within j i has, has))
 
 -- the lists are turned
-pub all_turned : (lists turned : List (List ℕ)) (bound : ℕ) → length lists ≤ bound → AreListedBelow (IsListedAt lists) (length lists) bound turned → AreTurned lists turned
-all_turned lists turned bound all below = record {
+pub all_turned : (lists : List (List ℕ)) (count : ℕ) (turned : List (List ℕ)) (bound : ℕ) → length lists ≤ bound → AreListedBelow (IsListedAt lists) count bound turned → AreTurned lists count turned
+all_turned lists count turned bound all below = record {
   len = below.len;
-  each = λ i j low. listed_all (IsListedAt lists) (length lists) bound turned (λ k n has. let there = listed_within lists k n has in omega (arith, there, all)) below j i low;
+  each = λ i j low. listed_all (IsListedAt lists) count bound turned (λ k n has. let there = listed_within lists k n has in omega (arith, there, all)) below j i low;
 }
+
+-- a graph whose lists are turned round has its edges turned round
+pub turned_edges : (g h : GraphView) → AreTurned g.sets (length g.takes) h.takes → AreTurned g.takes (length g.sets) h.sets → (i j : ℕ) → IsEdge h i j ↔ IsEdge g j i
+turned_edges g h takes sets i j = (
+  λ e. (let node : i < length g.takes = (let low = listed_within h.takes i e.set e.takes in let same = takes.len in omega (arith, low, same)) in
+      let set : e.set < length g.sets = (let low = listed_within h.sets e.set j e.has in let same = sets.len in omega (arith, low, same)) in
+      record { set = e.set; takes = (sets.each j e.set set).0 e.has; has = (takes.each e.set i node).0 e.takes; node = node }),
+  λ e. record {
+    set = e.set;
+    takes = (takes.each e.set i e.node).1 e.has;
+    has = (sets.each j e.set (listed_within g.sets e.set i e.has)).1 e.takes;
+    node = (let low = listed_within g.takes j e.set e.takes in let same = takes.len in omega (arith, low, same));
+  },
+)

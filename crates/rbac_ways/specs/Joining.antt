@@ -13,10 +13,10 @@ SharesWord takes had_by i j = (w : Text) × Contains (slice_index_or takes i [])
 abbrev pub IsListedAt : List (List ℕ) → ℕ → ℕ → Type 0
 IsListedAt lists place number = Contains (slice_index_or lists place []) number
 
--- lists turned round: each place is listed at the numbers that are listed there
-pub record AreTurned (lists turned : List (List ℕ)) : Type 0 where
-  pub len : length turned ≡ length lists
-  pub each : (i j : ℕ) → j < length lists → IsListedAt turned j i ↔ IsListedAt lists i j
+-- lists turned round into this many: each place is listed at the numbers that are listed there
+pub record AreTurned (lists : List (List ℕ)) (count : ℕ) (turned : List (List ℕ)) : Type 0 where
+  pub len : length turned ≡ count
+  pub each : (i j : ℕ) → j < count → IsListedAt turned j i ↔ IsListedAt lists i j
 
 -- the words of these lists, each once, in order; the number of a word is its place
 pub record AreWordsOf (lists : List (List Text)) (words : List Text) : Type 0 where

@@ -37,15 +37,32 @@ impl Graph {
         sets.extend_with_clones(also)?;
         Ok(Graph { takes, sets })
     }
+
+    /// The graph with each edge turned round (own). Sets that many nodes take stay one each. Fails only
+    /// if it runs out of memory.
+    pub fn turned(&self, alloc: Global) -> Result<Self, AllocError>
+        ensures nodes { IfOk result (λ g. length g.takes ≡ length self.now.takes) }
+        ensures edges { IfOk result (λ g. (i j : ℕ) → IsEdge g i j ↔ IsEdge self.now j i) }
+    {
+        let takes = self.takes.as_slice();
+        let sets = self.sets.as_slice();
+        Ok(Graph {
+            takes: turned(alloc, sets, takes.len())?,
+            sets: turned(alloc, takes, sets.len())?,
+        })
+    }
 }
 
-/// The lists turned round: each place is listed at the numbers that are listed there, so that edges
-/// lead the other way (own). A number past the last place is left out. Fails only if it runs out of
-/// memory.
-pub fn turned(alloc: Global, lists: &[Items<usize>]) -> Result<Vec<Items<usize>>, AllocError>
-    ensures { IfOk result (λ turned. AreTurned lists.now turned.items) }
+// The lists turned round into this many: each place is listed at the numbers that are listed there. A
+// number past the last one is left out.
+fn turned(
+    alloc: Global,
+    lists: &[Items<usize>],
+    count: usize,
+) -> Result<Vec<Items<usize>>, AllocError>
+    ensures { IfOk result (λ turned. AreTurned lists.now count turned.items) }
 {
-    let mut turned = no_nodes(alloc, lists.len())?;
+    let mut turned = no_nodes(alloc, count)?;
     for (place, numbers) in lists.iter().enumerate() {
         add_to_each(numbers.as_slice(), place, &mut turned)?;
     }

@@ -8,5 +8,4 @@ mod meeting;
 mod search;
 
 pub use graph::{Graph, Reached, Stop};
-pub use joining::turned;
 pub use search::shortest_ways;

@@ -1,4 +1,5 @@
 use Rattle.std.proofs.Common.{◌≡◌, ◌∙◌, None, Some, arith, get_or, map, refl, sym}
+use Rattle.rbac_paths.specs.Aims.{ToTakeOver}
 use Rattle.rbac_paths.specs.Nodes.{node_of}
 use Rattle.rbac_paths.specs.Reasons.{IsReason, reason_view}
 use Rattle.rbac_paths.specs.TakingOver.{TakesOver}
@@ -26,7 +27,7 @@ returns-in_default-2 c =
     let there = c.in-Some-get.ensures.lookup.3 in
     let takes = takes_both p steps ys c.args.stops.now c.requires.linked c.args.place s at (λ none. (let not = c.if-stop-eq0.false in omega (arith, none, not))) (node_of before) (node_of node)
     (mapped_at node_of c.args.nodes.now s.before before found.0 (found.1 before)) (mapped_at node_of c.args.nodes.now c.args.place node there.0 (there.1 node)) in
-    absurd (matched_none c.in_ok-step.field-0 _ (λ t. IsFirstTold p steps (node_of before) (node_of node) t.0 × IsReason p (node_of before) t.0 (node_of node) (reason_view t.1)) c.in_default-2.not-Some c.in_ok-step.ensures takes)
+    absurd (matched_none c.in_ok-step.field-0 _ (λ t. IsFirstTold p steps (node_of before) (node_of node) t.0 × IsReason p (node_of before) (ToTakeOver t.0 (node_of node)) (reason_view t.1)) c.in_default-2.not-Some c.in_ok-step.ensures takes)
 
 pub returns : goal.returns
 returns c =
@@ -37,7 +38,7 @@ returns c =
     let found = c.in-Some.ensures.lookup.3 in
     let node = c.in-Some-get.node.now in
     let there = c.in-Some-get.ensures.lookup.3 in
-    let told = matched_some c.in_ok-step.field-0 (TakesOver p steps (node_of before) (node_of node) → ⊥) (λ t. IsFirstTold p steps (node_of before) (node_of node) t.0 × IsReason p (node_of before) t.0 (node_of node) (reason_view t.1))
+    let told = matched_some c.in_ok-step.field-0 (TakesOver p steps (node_of before) (node_of node) → ⊥) (λ t. IsFirstTold p steps (node_of before) (node_of node) t.0 × IsReason p (node_of before) (ToTakeOver t.0 (node_of node)) (reason_view t.1))
     _ c.in-Some-2.is c.in_ok-step.ensures in
     record {
       stop = s;

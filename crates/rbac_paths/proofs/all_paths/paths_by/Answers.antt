@@ -1,10 +1,11 @@
-use Rattle.std.proofs.Common.{◌≡◌, ◌+◌, List, MatchOption, Option, ℕ, get_or, map, subst, sym, take}
+use Rattle.std.proofs.Common.{◌≡◌, List, MatchOption, Option, ℕ, get_or, map, subst, sym, take}
 use Rattle.std.proofs.lemmas.List.{get_or_default, take_more}
 use Rattle.rbac_ways.specs.Ways.{AreInOrder}
 use Rattle.rbac_ways.specs.declared.graph.Stop.{Stop}
 use Rattle.rbac_paths.specs.Nodes.{node_of}
 use Rattle.rbac_paths.specs.Tracing.{IsPathAt, IsUnled}
-use Rattle.rbac_paths.proofs.Tracing.{matched_none, matched_some, met_before, paths_more, paths_same}
+use Rattle.rbac_paths.specs.Paths.{IsNearer}
+use Rattle.rbac_paths.proofs.Tracing.{matched_none, matched_some, met_before, nearer, told_more, told_same}
 use Rattle.rbac_paths.proofs.all_paths.paths_by.Goals as goal
 use Rattle.rbac_paths.proofs.all_paths.paths_by.Goals.{in-Some+in_ok-push, in_default}
 
@@ -24,9 +25,10 @@ loop-place-preserved c =
     let path = subst (λ (ss : List (Option Stop)). MatchOption c.in_ok-path.field-0 (IsUnled ss place) (IsPathAt p steps ys ss place)) same c.in_ok-path.ensures in
     rw (take_more items i 0 c.loop-place-test.true) (elim c.match-branch-3.branch [
       | in-Some+in_ok-push w ↦ rw (w.paths-is, w.in_ok-push.ensures.items)
-          (paths_more p steps ys stops c.requires.ordered (take i items) place xs c.loop-place.invariant later _
-          (matched_some c.in_ok-path.field-0 (IsUnled stops place) (IsPathAt p steps ys stops place) _ w.in-Some.is path))
+          (let is = matched_some c.in_ok-path.field-0 (IsUnled stops place) (IsPathAt p steps ys stops place) _ w.in-Some.is path in
+          told_more (IsPathAt p steps ys stops) (IsUnled stops) IsNearer (take i items) place xs c.loop-place.invariant _ is
+          (λ j z had at. nearer p steps ys stops c.requires.ordered j place z _ (later j had) at is))
       | in_default w ↦ rw w.paths-is
-          (paths_same p steps ys stops c.requires.ordered (take i items) place xs c.loop-place.invariant
+          (told_same (IsPathAt p steps ys stops) (IsUnled stops) IsNearer (take i items) place xs c.loop-place.invariant
           (matched_none c.in_ok-path.field-0 (IsUnled stops place) (IsPathAt p steps ys stops place) w.in_default.not-Some path))
     ])

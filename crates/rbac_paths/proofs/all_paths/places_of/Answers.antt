@@ -2,9 +2,9 @@ use Rattle.std.proofs.Common.{◌≡◌, ◌∙◌, Some, arith, length, map, sl
 use Rattle.std.proofs.lemmas.List.{length-map}
 use Rattle.std.proofs.lemmas.Option.{slice_get_within}
 use Rattle.rbac_paths.specs.Nodes.{node_of}
-use Rattle.rbac_paths.specs.Tracing.{HasKeyAt}
+use Rattle.rbac_paths.specs.Tracing.{HasKeyAt, HasKeyOf}
 use Rattle.rbac_paths.proofs.Mapped.{mapped_at}
-use Rattle.rbac_paths.proofs.Tracing.{all_below, below_more, below_same, keyed_here}
+use Rattle.rbac_paths.proofs.Tracing.{all_below, below_more, below_same, is_here}
 use Rattle.rbac_paths.proofs.all_paths.places_of.Goals as goal
 use Rattle.rbac_paths.proofs.all_paths.places_of.Goals.{then-has_key_of+in_ok-push, else-has_key_of}
 
@@ -21,7 +21,7 @@ loop-place-preserved c =
           (below_more (HasKeyAt ys who) place js c.loop-place.invariant (y, at, c.has_key_of.ensures.0 w.if-has_key_of.true))
       | else-has_key_of w ↦ rw w.places-is
           (below_same (HasKeyAt ys who) place js c.loop-place.invariant
-          (λ has. (let both = c.has_key_of.ensures.1 (keyed_here ys who place y at has) in let not = w.if-has_key_of.false in cc)))
+          (λ has. (let both = c.has_key_of.ensures.1 (is_here (HasKeyOf who) ys place y at has) in let not = w.if-has_key_of.false in cc)))
     ]
 
 pub returns : goal.returns

@@ -1,4 +1,3 @@
-use Rattle.std.proofs.Common.{sym}
 use Rattle.rbac_paths.specs.Nodes.{node_of}
 use Rattle.rbac_paths.proofs.Others.{about_node, some_counts, told_some}
 use Rattle.rbac_paths.proofs.graph.takes_nobody.Goals as goal

@@ -4,7 +4,7 @@ use Rattle.rbac_paths.specs.Nodes.{node_of}
 use Rattle.rbac_paths.specs.Rows.{AreOfStep}
 use Rattle.rbac_paths.specs.Steps.{RowView, table}
 use Rattle.rbac_paths.specs.Told.{HoldingTakes}
-use Rattle.rbac_paths.proofs.Grants.{by_rows, in_rows}
+use Rattle.rbac_paths.proofs.RowsOfStep.{by_rows, in_rows}
 use Rattle.rbac_paths.proofs.told.StepRows.is_taken_by.Goals as goal
 
 pub returns : goal.returns

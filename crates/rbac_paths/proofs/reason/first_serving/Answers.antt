@@ -1,10 +1,10 @@
 use Rattle.std.proofs.Common.{arith}
-use Rattle.rbac_paths.specs.Nodes.{node_of}
-use Rattle.rbac_paths.proofs.Reasons.{none_at_first, none_left, run_before, run_takes}
-use Rattle.rbac_paths.proofs.reason.first_taking.Goals as goal
+use Rattle.rbac_paths.specs.Aims.{aim_of}
+use Rattle.rbac_paths.proofs.Reasons.{none_at_first, none_left, run_before, run_serves}
+use Rattle.rbac_paths.proofs.reason.first_serving.Goals as goal
 
 pub loop-start-init : goal.loop-start-init
-loop-start-init c = none_at_first c.args.policy.now c.args.who.now c.args.rows.now (node_of c.args.to)
+loop-start-init c = none_at_first c.args.policy.now (aim_of c.args.aim) c.args.who.now
 
 pub first_in_run-requires-clause-ordered : goal.first_in_run-requires-clause-ordered
 first_in_run-requires-clause-ordered c = omega (arith, c.in-Some.ensures.next.some)
@@ -14,7 +14,7 @@ first_in_run-requires-clause-within c = rw (← c.requires) c.in-Some.ensures.wi
 
 pub loop-start-preserved : goal.loop-start-preserved
 loop-start-preserved c =
-    run_before c.args.policy.now c.args.who.now c.args.rows.now (node_of c.args.to) c.loop-start.from c.in-Some.start c.in-Some.end (rw (← c.requires) c.in-Some.ensures.next) c.loop-start.invariant c.in-Some.end (omega arith)
+    run_before c.args.policy.now (aim_of c.args.aim) c.args.who.now c.loop-start.from c.in-Some.start c.in-Some.end (rw (← c.requires) c.in-Some.ensures.next) c.loop-start.invariant c.in-Some.end (omega arith)
     c.in_default-first_in_run.ensures
 
 pub loop-start-smaller : goal.loop-start-smaller
@@ -26,8 +26,8 @@ loop-start-smaller c =
 pub returns-in-Some-first_in_run : goal.returns-in-Some-first_in_run
 returns-in-Some-first_in_run c =
     let e = c.in-Some-first_in_run.ensures in
-    run_takes c.args.policy.now c.args.who.now c.args.rows.now (node_of c.args.to) c.loop-start.from c.in-Some.start c.in-Some.end (rw (← c.requires) c.in-Some.ensures.next) c.loop-start.invariant c.in-Some-first_in_run.no
+    run_serves c.args.policy.now (aim_of c.args.aim) c.args.who.now c.loop-start.from c.in-Some.start c.in-Some.end (rw (← c.requires) c.in-Some.ensures.next) c.loop-start.invariant c.in-Some-first_in_run.no
     e.0 e.1 e.2 e.3 e.4 e.5
 
 pub returns : goal.returns
-returns c = none_left c.args.policy.now c.args.who.now c.args.rows.now (node_of c.args.to) c.loop-start.from (rw (← c.requires) c.in_default.ensures.next) c.loop-start.invariant
+returns c = none_left c.args.policy.now (aim_of c.args.aim) c.args.who.now c.loop-start.from (rw (← c.requires) c.in_default.ensures.next) c.loop-start.invariant

@@ -1,0 +1,44 @@
+use Rattle.std.proofs.Common.{◌≡◌, List, MatchOption, None, Option, ℕ, get_or, map, subst, sym, take}
+use Rattle.std.proofs.lemmas.List.{get_or_default, take_more}
+use Rattle.rbac_ways.specs.Ways.{AreInOrder}
+use Rattle.rbac_ways.specs.declared.graph.Stop.{Stop}
+use Rattle.rbac_paths.specs.Access.{access_of}
+use Rattle.rbac_paths.specs.Nodes.{node_of}
+use Rattle.rbac_paths.specs.TracingWays.{IsToldAt, IsUntoldAt, IsWayAt}
+use Rattle.rbac_paths.specs.WaysTo.{IsShorter}
+use Rattle.rbac_paths.proofs.Tracing.{matched_none, matched_some, met_before, told_more, told_same}
+use Rattle.rbac_paths.proofs.WaysTold.{not_come, shorter, told_there}
+use Rattle.rbac_paths.proofs.all_ways.ways_by.Goals as goal
+use Rattle.rbac_paths.proofs.all_ways.ways_by.Goals.{then-is_met+in_ok-way, else-is_met, in-Some+in_ok-push, in_default}
+
+pub loop-place-preserved : goal.loop-place-preserved
+loop-place-preserved c =
+    let p = c.args.policy.now in
+    let steps = c.args.steps.now in
+    let asked = access_of c.args.access in
+    let ys = map node_of c.args.nodes.now in
+    let come = c.args.come.now in
+    let stops = c.args.reached.now.stops.items in
+    let items = c.as_slice-place-items.result.now in
+    let i = c.loop-place.place-index in
+    let place = get_or items i 0 in
+    let ways = c.loop-place.ways.items in
+    let same : c.as_slice-stops.result.now ≡ stops = c.as_slice-stops.ensures.value in
+    let in_order = subst (λ (order : List ℕ). AreInOrder stops order) (sym c.as_slice-place-items.ensures.value) c.requires.order in
+    let later = met_before stops items in_order i place c.loop-place-test.true (get_or_default items i 0 place c.loop-place-test.true) in
+    let way : MatchOption c.if-is_met.way' (IsUntoldAt come stops place) (IsToldAt p steps asked ys come stops place) = elim c.if-is_met.branch [
+      | then-is_met+in_ok-way w ↦ rw w.way'-is
+          (told_there p steps ys stops asked come place (c.is_met.ensures.0 w.if-is_met.true) _
+          (subst (λ (ss : List (Option Stop)). MatchOption w.in_ok-way.way (get_or ss place None ≡ None) (IsWayAt p steps asked ys ss place)) same w.in_ok-way.ensures))
+      | else-is_met w ↦ rw w.way'-is
+          (not_come p steps ys stops asked come place (λ is. (let both = c.is_met.ensures.1 is in let not = w.if-is_met.false in cc)))
+    ] in
+    rw (take_more items i 0 c.loop-place-test.true) (elim c.match-way.branch [
+      | in-Some+in_ok-push w ↦ rw (w.ways-is, w.in_ok-push.ensures.items)
+          (let is = matched_some c.if-is_met.way' (IsUntoldAt come stops place) (IsToldAt p steps asked ys come stops place) _ w.in-Some.is way in
+          told_more (IsToldAt p steps asked ys come stops) (IsUntoldAt come stops) IsShorter (take i items) place ways c.loop-place.invariant _ is
+          (λ j z had at. shorter p steps ys stops asked come c.requires.ordered j place z _ (later j had) at is))
+      | in_default w ↦ rw w.ways-is
+          (told_same (IsToldAt p steps asked ys come stops) (IsUntoldAt come stops) IsShorter (take i items) place ways c.loop-place.invariant
+          (matched_none c.if-is_met.way' (IsUntoldAt come stops place) (IsToldAt p steps asked ys come stops place) w.in_default.not-Some way))
+    ])

@@ -1,0 +1,75 @@
+-- The ways from whom and what somebody comes to, to what allows what is asked for.
+use Rattle.std.specs.Prelude.{◌≡◌, ◌+◌, ℕ, List, Option, All, AllPairs, Any, Contains, MatchOption}
+use Rattle.rbac_terms.specs.Principals.{Who}
+use Rattle.rbac_model.specs.Policies.{PolicyView}
+use Rattle.rbac_paths.specs.Access.{AccessView, AllowsAccess}
+use Rattle.rbac_paths.specs.Aims.{ToTakeOver, ToBeAllowed}
+use Rattle.rbac_paths.specs.Nodes.{NodeView, Somebody}
+use Rattle.rbac_paths.specs.Paths.{ComesFirst, GoesTo, IsBeforeOn, IsFewest, LeadsTo}
+use Rattle.rbac_paths.specs.Reasons.{IsReason, ReasonView}
+use Rattle.rbac_paths.specs.Told.{IsFirstTold}
+use Rattle.rbac_paths.specs.declared.steps.Step.{Step}
+
+-- one of these users and groups
+abbrev pub IsPrincipal : List Who → NodeView → Type 0
+IsPrincipal principals y = (who : Who) × Contains principals who × (y ≡ Somebody who)
+
+-- steps lead to y from one of the users and groups, or it is one
+abbrev pub IsComeTo : PolicyView → List Who → List Step → NodeView → Type 0
+IsComeTo p principals steps y =
+    (n : ℕ) × LeadsTo (GoesTo p principals steps) (IsPrincipal principals) n y
+
+-- one of these steps goes from x to y, seen from y
+abbrev pub GoesBack : PolicyView → List Who → List Step → NodeView → NodeView → Type 0
+GoesBack p principals steps y x = GoesTo p principals steps x y
+
+-- n steps lead from x to a node that allows what is asked for
+abbrev pub StepsLeadOn : PolicyView → List Who → List Step → AccessView → ℕ → NodeView → Type 0
+StepsLeadOn p principals steps asked n x =
+    LeadsTo (GoesBack p principals steps) (AllowsAccess p asked) n x
+
+-- the first step of a way: the node that it leads to, and the step
+pub record NextView : Type 0 where
+  pub node : NodeView
+  pub step : Step
+
+-- a node from which steps lead to one that allows what is asked for: how many steps, the first of them,
+-- if there is one, and why that is one, or, if there is none, why the node itself allows it
+pub record WayView : Type 0 where
+  pub count : ℕ
+  pub node : NodeView
+  pub next : Option NextView
+  pub reason : ReasonView
+
+-- the first step of a way from x with the fewest steps: it goes to the first node as printed that such a
+-- way can go to, by the first of the steps that are told, for the first reason
+pub record IsNext (p : PolicyView) (principals : List Who) (steps : List Step) (asked : AccessView)
+    (x : WayView) (next : NextView) : Type 0 where
+  pub others : ℕ
+  pub count : x.count ≡ others + 1
+  pub to : IsBeforeOn (GoesBack p principals steps) (AllowsAccess p asked) others x.node next.node
+  pub step : IsFirstTold p steps x.node next.node next.step
+  pub reason : IsReason p x.node (ToTakeOver next.step next.node) x.reason
+
+-- a way from a node that is a user or a group, or that steps lead to from one, with the fewest steps
+pub record IsWay (p : PolicyView) (principals : List Who) (steps : List Step) (asked : AccessView)
+    (x : WayView) : Type 0 where
+  pub come : IsComeTo p principals steps x.node
+  pub fewest : IsFewest (GoesBack p principals steps) (AllowsAccess p asked) x.count x.node
+  pub next : MatchOption x.next
+      ((x.count ≡ 0) × IsReason p x.node (ToBeAllowed asked) x.reason)
+      (IsNext p principals steps asked x)
+
+-- fewer steps lead on from x, or as many, and x is printed before y
+abbrev pub IsShorter : WayView → WayView → Type 0
+IsShorter x y = ComesFirst x.count y.count x.node y.node
+
+-- exactly the users and groups, and the nodes that steps lead to from one of them, from which steps, or
+-- none, lead to a node that allows what is asked for, in order of how many steps do, and then as printed
+-- (own)
+pub record AreWaysTo (p : PolicyView) (principals : List Who) (steps : List Step) (asked : AccessView)
+    (xs : List WayView) : Type 0 where
+  pub each : All (IsWay p principals steps asked) xs
+  pub complete : (n : ℕ) (y : NodeView) → IsComeTo p principals steps y
+      → StepsLeadOn p principals steps asked n y → Any (λ x. x.node ≡ y) xs
+  pub ordered : AllPairs IsShorter xs

@@ -1,0 +1,327 @@
+//! The ways to what is asked for.
+
+ghost use Rattle.std.specs.Prelude.{◌≡◌, ◌≢◌, ◌↔◌, ℕ, All, AllPairs, Any, Contains, IfOk, IsTrue};
+ghost use Rattle.std.specs.Prelude.{IsSome, MatchOption, None, map, slice_index_or};
+ghost use Rattle.std.specs.declared.cmp.Ordering.TheVariants.{Less};
+ghost use Rattle.rbac_terms.specs.Principals.{who_key};
+ghost use Rattle.rbac_terms.specs.Text.{text_cmp};
+ghost use Rattle.rbac_model.specs.Lists.{IsAscendingBy};
+ghost use Rattle.rbac_model.specs.Policies.{IsPolicy};
+ghost use Rattle.rbac_model.specs.Unions.{who_name};
+ghost use Rattle.rbac_ways.specs.Ways.{AreInOrder};
+ghost use Rattle.rbac_paths.specs.Access.{AllowsAccess, access_of};
+ghost use Rattle.rbac_paths.specs.Aims.{Serves, ToBeAllowed};
+ghost use Rattle.rbac_paths.specs.Having.{rule_of_all};
+ghost use Rattle.rbac_paths.specs.NodeLists.{node_text};
+ghost use Rattle.rbac_paths.specs.Nodes.{node_of};
+ghost use Rattle.rbac_paths.specs.Told.{HasItsRole};
+ghost use Rattle.rbac_paths.specs.Tracing.{IsAt};
+ghost use Rattle.rbac_paths.specs.TracingWays.{AreEnds, AreLinkedOn, AreWaysAt, IsOwnWay};
+ghost use Rattle.rbac_paths.specs.TracingWays.{IsSomebody, IsWayAt};
+ghost use Rattle.rbac_paths.specs.WaysTo.{AreWaysTo};
+
+use crate::access::Access;
+use crate::aim::Aim;
+use crate::all_paths::last_step;
+use crate::bound_names::bound_names;
+use crate::graph::graph_of;
+use crate::holding::{Holding, holdings_of, rule_of_all};
+use crate::node::Node;
+use crate::nodes::nodes_of;
+use crate::reason::{Reason, reason_of};
+use crate::steps::Step;
+use crate::told::{StepRows, rows_of_steps};
+use rbac_model::Policy;
+use rbac_subjects::SubjectIndex;
+use rbac_terms::{Principal, Rule};
+use rbac_ways::{Reached, Stop, shortest_ways};
+use std::alloc::{AllocError, Global};
+use std::marker::Model;
+
+/// A node from which steps lead to one that allows what is asked for, and the first step of such a way
+/// that has the fewest. Contracts see its nodes by what they refer to.
+#[derive(Drop)]
+pub struct Way<'p> {
+    /// How many steps lead there, at least; 0 if the node itself allows it.
+    pub count: usize,
+    /// The node.
+    pub node: Node<'p>,
+    /// The first step, if there is one.
+    pub next: Option<Next<'p>>,
+    /// Why that is one, or, if there is none, why the node itself allows what is asked for.
+    pub reason: Reason<'p>,
+}
+
+/// The first step of a way.
+#[derive(Clone, Copy)]
+pub struct Next<'p> {
+    /// The node that it leads to: of several the first as printed.
+    pub node: Node<'p>,
+    /// The first step by which that is taken over.
+    pub step: Step,
+}
+
+impl<'p> Model for Way<'p> {
+    ghost use Rattle.std.specs.Prelude.{option_map};
+    ghost use Rattle.rbac_paths.specs.Nodes.{node_of};
+    ghost use Rattle.rbac_paths.specs.Reasons.{reason_view};
+    ghost use Rattle.rbac_paths.specs.WaysTo.{WayView};
+
+    ghost Value = { WayView };
+
+    ghost view = { λ x. record {
+      count = x.count;
+      node = node_of x.node;
+      next = option_map (λ n. record { node = node_of n.node; step = n.step }) x.next;
+      reason = reason_view x.reason;
+    } };
+}
+
+/// The users and groups, and the nodes that steps lead to from one of them, from which steps, or
+/// none, lead to a node that allows what is asked for, each once, with the first step of a way that
+/// has the fewest, in order of how many steps there are, and then of how the nodes are printed (own).
+/// Nodes are the users and groups given; the roles, where they can be bound; and everything in a
+/// scope. Fails only if it runs out of memory.
+pub fn ways_to<'p>(
+    alloc: Global,
+    policy: &'p Policy,
+    index: &SubjectIndex<'p>,
+    principals: &'p [Principal],
+    steps: &[Step],
+    access: Access<'_>,
+) -> Result<Vec<Way<'p>>, AllocError>
+    requires index { index.now ≡ policy.now }
+    requires ordered { IsAscendingBy who_name principals.now }
+    ensures { IfOk result (λ found.
+        AreWaysTo policy.now principals.now steps.now (access_of access.entry) found.items) }
+{
+    let rows = rows_of_steps(alloc, steps)?;
+    let all = each_of(alloc, principals)?;
+    let names = bound_names(alloc, policy)?;
+    let nodes = nodes_of(alloc, policy, all.as_slice(), names.as_slice())?;
+    let nodes = nodes.as_slice();
+    let graph = graph_of(alloc, policy, index, rows.as_slice(), nodes)?;
+    let starts = places_of_somebody(alloc, nodes)?;
+    let come = shortest_ways(alloc, &graph, starts.as_slice())?;
+    let ends = places_of_allowing(alloc, policy, index, nodes, access)?;
+    let back = graph.turned(alloc)?;
+    let reached = shortest_ways(alloc, &back, ends.as_slice())?;
+    ways_by(
+        alloc,
+        policy,
+        index,
+        rows.as_slice(),
+        access,
+        nodes,
+        come.stops.as_slice(),
+        &reached,
+    )
+}
+
+// These users and groups, each by reference.
+fn each_of<'p>(alloc: Global, principals: &'p [Principal]) -> Result<Vec<&'p Principal>, AllocError>
+    ensures same { IfOk result (λ all. map (λ each. each.now) all.items ≡ principals.now) }
+    ensures apart { IsAscendingBy who_name principals.now
+        → IfOk result (λ all. AllPairs (λ a b. who_key a.now ≢ who_key b.now) all.items) }
+{
+    let mut all = Vec::with_capacity(alloc, principals.len())?;
+    for who in principals {
+        all.push(who)?;
+    }
+    Ok(all)
+}
+
+// The places of the users and groups among these nodes.
+fn places_of_somebody(alloc: Global, nodes: &[Node<'_>]) -> Result<Vec<usize>, AllocError>
+    ensures { IfOk result (λ places. (j : ℕ)
+        → Contains places.items j ↔ IsAt IsSomebody (map node_of nodes.now) j) }
+{
+    let mut places = Vec::new(alloc);
+    for (place, node) in nodes.iter().enumerate() {
+        if is_somebody(*node) {
+            places.push(place)?;
+        }
+    }
+    Ok(places)
+}
+
+// Whether a node is a user or a group.
+fn is_somebody(node: Node<'_>) -> bool
+    ensures { IsTrue result ↔ IsSomebody (node_of node.entry) }
+{
+    matches!(node, Node::Somebody(_))
+}
+
+// The places of the nodes among these that allow what is asked for.
+fn places_of_allowing(
+    alloc: Global,
+    policy: &Policy,
+    index: &SubjectIndex<'_>,
+    nodes: &[Node<'_>],
+    access: Access<'_>,
+) -> Result<Vec<usize>, AllocError>
+    requires policy { IsPolicy policy.now }
+    requires index { index.now ≡ policy.now }
+    requires held { All (HasItsRole policy.now.held) (map node_of nodes.now) }
+    ensures { IfOk result (λ places. (j : ℕ) → Contains places.items j
+        ↔ IsAt (AllowsAccess policy.now (access_of access.entry)) (map node_of nodes.now) j) }
+{
+    let all = rule_of_all(alloc)?;
+    let mut places = Vec::new(alloc);
+    for (place, node) in nodes.iter().enumerate() {
+        if allows(alloc, policy, index, &all, *node, access)? {
+            places.push(place)?;
+        }
+    }
+    Ok(places)
+}
+
+// Whether a node allows what is asked for.
+fn allows(
+    alloc: Global,
+    policy: &Policy,
+    index: &SubjectIndex<'_>,
+    all: &Rule,
+    node: Node<'_>,
+    access: Access<'_>,
+) -> Result<bool, AllocError>
+    requires policy { IsPolicy policy.now }
+    requires index { index.now ≡ policy.now }
+    requires all { all.now ≡ rule_of_all }
+    requires role { HasItsRole policy.now.held (node_of node) }
+    ensures { IfOk result
+        (λ does. IsTrue does ↔ AllowsAccess policy.now (access_of access.entry) (node_of node.entry)) }
+{
+    let holdings = holdings_of(alloc, policy, index, all, node)?;
+    Ok(some_gives(holdings.as_slice(), access))
+}
+
+// Whether some of these allows what is asked for where it counts.
+fn some_gives(holdings: &[Holding<'_>], access: Access<'_>) -> bool
+    ensures { IsTrue result ↔ Any
+        (λ h. Serves (ToBeAllowed (access_of access.entry)) h.home h.rule) holdings.now }
+{
+    holdings.iter().any(|held| access.is_given_by(held))
+}
+
+// The ways from the nodes that were reached, of those that are come to.
+fn ways_by<'p>(
+    alloc: Global,
+    policy: &'p Policy,
+    index: &SubjectIndex<'p>,
+    steps: &[StepRows],
+    access: Access<'_>,
+    nodes: &[Node<'p>],
+    come: &[Option<Stop>],
+    reached: &Reached,
+) -> Result<Vec<Way<'p>>, AllocError>
+    requires policy { IsPolicy policy.now }
+    requires index { index.now ≡ policy.now }
+    requires held { All (HasItsRole policy.now.held) (map node_of nodes.now) }
+    requires ordered { AllPairs (λ y z. text_cmp (node_text y) (node_text z) ≡ Less)
+        (map node_of nodes.now) }
+    requires linked { AreLinkedOn policy.now steps.now (map node_of nodes.now)
+        reached.now.stops.items }
+    requires ends { AreEnds policy.now (access_of access) (map node_of nodes.now) reached.now.stops.items }
+    requires order { AreInOrder reached.now.stops.items reached.now.order.items }
+    ensures { IfOk result (λ found. AreWaysAt policy.now steps.now (access_of access.entry)
+        (map node_of nodes.now) come.now reached.now.stops.items reached.now.order.items
+        found.items) }
+{
+    let all = rule_of_all(alloc)?;
+    let stops = reached.stops.as_slice();
+    let mut ways = Vec::new(alloc);
+    for place in reached.order.as_slice() {
+        let way = if is_met(come, *place) {
+            way_at(
+                alloc, policy, index, &all, steps, access, nodes, stops, *place,
+            )?
+        } else {
+            None
+        };
+        if let Some(way) = way {
+            ways.push(way)?;
+        }
+    }
+    Ok(ways)
+}
+
+// Whether a way leads to the node at this place.
+fn is_met(stops: &[Option<Stop>], place: usize) -> bool
+    ensures { IsTrue result ↔ IsSome (slice_index_or stops.now place None) }
+{
+    matches!(stops.get(place), Some(Some(_)))
+}
+
+// The way from the node at this place, if one leads on from there.
+fn way_at<'p>(
+    alloc: Global,
+    policy: &'p Policy,
+    index: &SubjectIndex<'p>,
+    all: &Rule,
+    steps: &[StepRows],
+    access: Access<'_>,
+    nodes: &[Node<'p>],
+    stops: &[Option<Stop>],
+    place: usize,
+) -> Result<Option<Way<'p>>, AllocError>
+    requires policy { IsPolicy policy.now }
+    requires index { index.now ≡ policy.now }
+    requires all { all.now ≡ rule_of_all }
+    requires held { All (HasItsRole policy.now.held) (map node_of nodes.now) }
+    requires linked { AreLinkedOn policy.now steps.now (map node_of nodes.now) stops.now }
+    requires ends { AreEnds policy.now (access_of access) (map node_of nodes.now) stops.now }
+    ensures { IfOk result (λ way. MatchOption way (slice_index_or stops.now place None ≡ None)
+        (IsWayAt policy.now steps.now (access_of access.entry) (map node_of nodes.now) stops.now place)) }
+{
+    let Some(Some(stop)) = stops.get(place) else {
+        return Ok(None);
+    };
+    let Some(node) = nodes.get(place) else {
+        return Ok(None);
+    };
+    if stop.edges == 0 {
+        return own_way(alloc, policy, index, access, *node);
+    }
+    let Some(next) = nodes.get(stop.before) else {
+        return Ok(None);
+    };
+    let Some((step, reason)) = last_step(alloc, policy, index, all, steps, *node, *next)? else {
+        return Ok(None);
+    };
+    let node = *node;
+    let next = Some(Next { node: *next, step });
+    let count = stop.edges;
+    Ok(Some(Way {
+        count,
+        node,
+        next,
+        reason,
+    }))
+}
+
+// The way of no steps from a node, if it allows what is asked for.
+fn own_way<'p>(
+    alloc: Global,
+    policy: &'p Policy,
+    index: &SubjectIndex<'p>,
+    access: Access<'_>,
+    node: Node<'p>,
+) -> Result<Option<Way<'p>>, AllocError>
+    requires policy { IsPolicy policy.now }
+    requires index { index.now ≡ policy.now }
+    requires role { HasItsRole policy.now.held (node_of node) }
+    ensures { IfOk result (λ way. MatchOption way
+        (¬ AllowsAccess policy.now (access_of access.entry) (node_of node.entry))
+        (IsOwnWay policy.now (access_of access.entry) (node_of node.entry))) }
+{
+    let Some(reason) = reason_of(alloc, policy, index, node, Aim::Access(access))? else {
+        return Ok(None);
+    };
+    Ok(Some(Way {
+        count: 0,
+        node,
+        next: None,
+        reason,
+    }))
+}
