@@ -25,21 +25,21 @@ use Rattle.rbac_paths.proofs.OneReason.{one_reason}
 -- ---- lists of users and groups with the same elements give the same paths
 
 module _ (R Q : NodeView → NodeView → Type 0) (IsStart : NodeView → Type 0) (to : (x y : NodeView) → R x y → Q x y) (back : (x y : NodeView) → Q x y → R x y) where
-  leads_to : (n : ℕ) (y : NodeView) → LeadsTo R IsStart n y → LeadsTo Q IsStart n y
+  pub leads_to : (n : ℕ) (y : NodeView) → LeadsTo R IsStart n y → LeadsTo Q IsStart n y
   leads_to zero y w = w
   leads_to (suc n) y (x, l, g) = (x, leads_to n x l, to x y g)
 
-  leads_back : (n : ℕ) (y : NodeView) → LeadsTo Q IsStart n y → LeadsTo R IsStart n y
+  pub leads_back : (n : ℕ) (y : NodeView) → LeadsTo Q IsStart n y → LeadsTo R IsStart n y
   leads_back zero y w = w
   leads_back (suc n) y (x, l, g) = (x, leads_back n x l, back x y g)
 
-  fewest_to : (n : ℕ) (y : NodeView) → IsFewest R IsStart n y → IsFewest Q IsStart n y
+  pub fewest_to : (n : ℕ) (y : NodeView) → IsFewest R IsStart n y → IsFewest Q IsStart n y
   fewest_to n y is = record { leads = leads_to n y is.leads; fewest = λ k lt l. is.fewest k lt (leads_back k y l) }
 
   fewest_back : (n : ℕ) (y : NodeView) → IsFewest Q IsStart n y → IsFewest R IsStart n y
   fewest_back n y is = record { leads = leads_back n y is.leads; fewest = λ k lt l. is.fewest k lt (leads_to k y l) }
 
-  before_to : (n : ℕ) (y x : NodeView) → IsBeforeOn R IsStart n y x → IsBeforeOn Q IsStart n y x
+  pub before_to : (n : ℕ) (y x : NodeView) → IsBeforeOn R IsStart n y x → IsBeforeOn Q IsStart n y x
   before_to n y x is = record {
     fewest = fewest_to n x is.fewest;
     goes = to x y is.goes;
@@ -53,15 +53,15 @@ module _ (p : PolicyView) (all others : List Who) (same : (who : Who) → Contai
   node_to (OwnRole role) is = is
   node_to (EverythingIn scope) is = is
 
-module _ (p : PolicyView) (all others : List Who) (steps : List Step) (start : NodeView) (same : (who : Who) → Contains all who ↔ Contains others who) where
-  goes_to : (x y : NodeView) → GoesTo p all steps x y → GoesTo p others steps x y
+module _ (p : PolicyView) (all others : List Who) (steps : List Step) (same : (who : Who) → Contains all who ↔ Contains others who) where
+  pub goes_to : (x y : NodeView) → GoesTo p all steps x y → GoesTo p others steps x y
   goes_to x y (is, takes) = (node_to p all others same y is, takes)
 
-  goes_back : (x y : NodeView) → GoesTo p others steps x y → GoesTo p all steps x y
+  pub goes_back : (x y : NodeView) → GoesTo p others steps x y → GoesTo p all steps x y
   goes_back x y (is, takes) = (node_to p others all (λ who. ((same who).1, (same who).0)) y is, takes)
 
-  path_to : (x : PathView) → IsPath p all steps start x → IsPath p others steps start x
-  path_to x is = record {
+  path_to : (start : NodeView) (x : PathView) → IsPath p all steps start x → IsPath p others steps start x
+  path_to start x is = record {
     others = is.others;
     count = is.count;
     fewest = fewest_to (GoesTo p all steps) (GoesTo p others steps) (λ y. y ≡ start) goes_to goes_back x.count x.node is.fewest;
@@ -70,9 +70,9 @@ module _ (p : PolicyView) (all others : List Who) (steps : List Step) (start : N
     reason = is.reason;
   }
 
-  pub paths_to : (xs : List PathView) → ArePaths p all steps start xs → ArePaths p others steps start xs
-  paths_to xs are = record {
-    each = λ k d l. path_to (get_or xs k d) (are.each k d l);
+  pub paths_to : (start : NodeView) (xs : List PathView) → ArePaths p all steps start xs → ArePaths p others steps start xs
+  paths_to start xs are = record {
+    each = λ k d l. path_to start (get_or xs k d) (are.each k d l);
     complete = λ n y not leads. are.complete n y not (leads_back (GoesTo p all steps) (GoesTo p others steps) (λ y. y ≡ start) goes_to goes_back n y leads);
     ordered = are.ordered;
   }
@@ -166,4 +166,4 @@ pub one_paths_of : (p : PolicyView) (principals : List Who) (steps : List Step) 
     → xs ≡ ys
 one_paths_of p principals steps who xs ys (all, exact, are) (others, listed, those) =
     let same : (each : Who) → Contains others each ↔ Contains all each = λ each. ((λ c. (exact each).1 ((listed each).0 c)), (λ c. (listed each).1 ((exact each).0 c))) in
-    one_paths p all steps (Somebody who) xs ys are (paths_to p others all steps (Somebody who) same ys those)
+    one_paths p all steps (Somebody who) xs ys are (paths_to p others all steps same (Somebody who) ys those)

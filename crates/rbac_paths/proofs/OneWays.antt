@@ -1,5 +1,5 @@
 -- the ways to what is asked for are one list
-use Rattle.std.proofs.Common.{◌≡◌, ◌∙◌, ◌∷◌, [], ℕ, suc, List, MatchOption, None, Option, Some, Contains, get_or, arith, sym, ap, refl, subst}
+use Rattle.std.proofs.Common.{◌≡◌, ◌↔◌, ◌∙◌, ◌∷◌, [], ℕ, zero, suc, List, MatchOption, None, Option, Some, Contains, get_or, arith, sym, ap, refl, subst}
 use Rattle.std.specs.Ordering.{ordering_reverse}
 use Rattle.std.specs.declared.cmp.Ordering.{Ordering}
 use Rattle.std.specs.declared.cmp.Ordering.TheVariants.{Less, Equal, Greater}
@@ -14,14 +14,59 @@ use Rattle.rbac_paths.specs.Access.{AccessView, AllowsAccess}
 use Rattle.rbac_paths.specs.Aims.{ToBeAllowed, ToTakeOver}
 use Rattle.rbac_paths.specs.NodeLists.{node_text}
 use Rattle.rbac_paths.specs.Nodes.{NodeView}
-use Rattle.rbac_paths.specs.Paths.{GoesTo, IsBeforeOn, IsFewest}
+use Rattle.rbac_paths.specs.Paths.{GoesTo, IsBeforeOn, IsFewest, LeadsTo}
 use Rattle.rbac_paths.specs.Reasons.{IsReason, ReasonView}
 use Rattle.rbac_paths.specs.Told.{IsFirstTold}
-use Rattle.rbac_paths.specs.WaysTo.{AreWaysTo, GoesBack, IsComeTo, IsNext, IsWay, NextView, WayView}
+use Rattle.rbac_paths.specs.WaysTo.{AreWays, AreWaysTo, GoesBack, IsComeTo, IsNext, IsPrincipal, IsWay, NextView, WayView}
 use Rattle.rbac_paths.specs.declared.steps.Step.{Step}
 use Rattle.rbac_paths.proofs.AllPowers.{same_first}
-use Rattle.rbac_paths.proofs.OnePaths.{one_count, told_less, told_name}
+use Rattle.rbac_paths.proofs.OnePaths.{before_to, fewest_to, goes_back, goes_to, leads_back, one_count, told_less, told_name}
 use Rattle.rbac_paths.proofs.OneReason.{one_reason}
+
+-- ---- lists of users and groups with the same elements give the same ways
+
+module _ (p : PolicyView) (all others : List Who) (steps : List Step) (asked : AccessView) (same : (who : Who) → Contains all who ↔ Contains others who) where
+  to : (x y : NodeView) → GoesTo p all steps x y → GoesTo p others steps x y
+  to = goes_to p all others steps same
+
+  from : (x y : NodeView) → GoesTo p others steps x y → GoesTo p all steps x y
+  from = goes_back p all others steps same
+
+  come_there : (n : ℕ) (y : NodeView) → LeadsTo (GoesTo p all steps) (IsPrincipal all) n y → LeadsTo (GoesTo p others steps) (IsPrincipal others) n y
+  come_there zero y (who, c, is) = (who, (same who).0 c, is)
+  come_there (suc n) y (x, l, goes) = (x, come_there n x l, to x y goes)
+
+  come_here : (n : ℕ) (y : NodeView) → LeadsTo (GoesTo p others steps) (IsPrincipal others) n y → LeadsTo (GoesTo p all steps) (IsPrincipal all) n y
+  come_here zero y (who, c, is) = (who, (same who).1 c, is)
+  come_here (suc n) y (x, l, goes) = (x, come_here n x l, from x y goes)
+
+  next_to : (x : WayView) (next : NextView) → IsNext p all steps asked x next → IsNext p others steps asked x next
+  next_to x next is = record {
+    others = is.others;
+    count = is.count;
+    to = before_to (GoesBack p all steps) (GoesBack p others steps) (AllowsAccess p asked) (λ y z. to z y) (λ y z. from z y) is.others x.node next.node is.to;
+    step = is.step;
+    reason = is.reason;
+  }
+
+  nexts_to : (x : WayView) (o : Option NextView) → MatchOption o ((x.count ≡ 0) × IsReason p x.node (ToBeAllowed asked) x.reason) (IsNext p all steps asked x)
+      → MatchOption o ((x.count ≡ 0) × IsReason p x.node (ToBeAllowed asked) x.reason) (IsNext p others steps asked x)
+  nexts_to x None is = is
+  nexts_to x (Some next) is = next_to x next is
+
+  pub ways_to : (xs : List WayView) → AreWays p all steps asked xs → AreWays p others steps asked xs
+  ways_to xs are = record {
+    each = λ k d l. (let x = get_or xs k d in let is = are.each k d l in record {
+      come = (is.come.0, come_there is.come.0 x.node is.come.1);
+      fewest = fewest_to (GoesBack p all steps) (GoesBack p others steps) (AllowsAccess p asked) (λ y z. to z y) (λ y z. from z y) x.count x.node is.fewest;
+      next = nexts_to x x.next is.next;
+    });
+    complete = λ n y come on. are.complete n y (come.0, come_here come.0 y come.1)
+        (leads_back (GoesBack p all steps) (GoesBack p others steps) (AllowsAccess p asked) (λ y z. to z y) (λ y z. from z y) n y on);
+    ordered = are.ordered;
+  }
+
+-- ---- one list
 
 abbrev way_name : WayView → List Text
 way_name = told_name (λ (x : WayView). x.count) (λ (x : WayView). x.node)
@@ -37,10 +82,10 @@ module _ (p : PolicyView) (all : List Who) (steps : List Step) (asked : AccessVi
   come_on : (x y : NodeView) → IsComeTo p all steps x → GoesTo p all steps x y → IsComeTo p all steps y
   come_on x y come goes = (suc come.0, (x, come.1, goes))
 
-  ascend : (xs : List WayView) → AreWaysTo p all steps asked xs → IsAscendingBy way_name xs
+  ascend : (xs : List WayView) → AreWays p all steps asked xs → IsAscendingBy way_name xs
   ascend xs are i j d lt l = told_less (λ (x : WayView). x.count) (λ (x : WayView). x.node) (get_or xs i d) (get_or xs j d) (are.ordered i j d lt l)
 
-  module _ (xs : List WayView) (are : AreWaysTo p all steps asked xs) where
+  module _ (xs : List WayView) (are : AreWays p all steps asked xs) where
     -- what is come to, and steps lead on from, is listed
     listed : (n : ℕ) (y : NodeView) → IsComeTo p all steps y → IsFewest R S n y → (x : WayView) × Contains xs x × (x.node ≡ y) × (x.count ≡ n)
     listed n y come few =
@@ -96,12 +141,19 @@ module _ (p : PolicyView) (all : List Who) (steps : List Step) (asked : AccessVi
         let there : IsWay p all steps asked (way x.count x.node a.come z.next z.reason) = subst (IsWay p all steps asked) here b in
         one_rest x.count x.node a.come x.next z.next x.reason z.reason a.next there.next ∙ sym here
 
-  into : (xs ys : List WayView) → AreWaysTo p all steps asked xs → AreWaysTo p all steps asked ys → (x : WayView) → Contains xs x → Contains ys x
+  into : (xs ys : List WayView) → AreWays p all steps asked xs → AreWays p all steps asked ys → (x : WayView) → Contains xs x → Contains ys x
   into xs ys are those x w =
       let is : IsWay p all steps asked x = subst (IsWay p all steps asked) w.2 (are.each w.0 x w.1) in
       let v = those.complete x.count x.node is.come is.fewest.leads in
       let too : IsWay p all steps asked v.1 = subst (IsWay p all steps asked) v.3 (those.each v.0 v.1 v.2) in
       subst (Contains ys) (one_way xs are v.1 x too is v.4) (v.0, v.2, v.3)
 
-  pub one_ways : (xs ys : List WayView) → AreWaysTo p all steps asked xs → AreWaysTo p all steps asked ys → xs ≡ ys
+  pub one_ways : (xs ys : List WayView) → AreWays p all steps asked xs → AreWays p all steps asked ys → xs ≡ ys
   one_ways xs ys are those = one_list way_name xs ys (ascend xs are) (ascend ys those) (into xs ys are those) (into ys xs those are)
+
+pub one_ways_to : (p : PolicyView) (principals : List Who) (steps : List Step) (asked : AccessView) (xs ys : List WayView)
+    → AreWaysTo p principals steps asked xs
+    → AreWaysTo p principals steps asked ys
+    → xs ≡ ys
+one_ways_to p principals steps asked xs ys (all, exact, are) (others, listed, those) =
+    one_ways p all steps asked xs ys are (ways_to p others all steps asked (λ who. ((λ c. (exact who).1 ((listed who).0 c)), (λ c. (listed who).1 ((exact who).0 c)))) ys those)

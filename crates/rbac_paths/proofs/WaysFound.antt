@@ -17,7 +17,7 @@ use Rattle.rbac_paths.specs.Reasons.{IsReason}
 use Rattle.rbac_paths.specs.Told.{IsFirstTold}
 use Rattle.rbac_paths.specs.Tracing.{IsAt}
 use Rattle.rbac_paths.specs.TracingWays.{AreEnds, AreLinkedOn, AreWaysAt, IsSomebody, IsToldAt}
-use Rattle.rbac_paths.specs.WaysTo.{AreWaysTo, GoesBack, IsComeTo, IsNext, IsPrincipal, IsWay, NextView, WayView}
+use Rattle.rbac_paths.specs.WaysTo.{AreWays, GoesBack, IsComeTo, IsNext, IsPrincipal, IsWay, NextView, WayView}
 use Rattle.rbac_paths.specs.declared.steps.Step.{Step}
 use Rattle.rbac_paths.proofs.GraphWays.{IsGraphBy, among, at_low, before, fewest, leads, one_less, one_or_none, one_place, reached, stop_is, stop_there, within}
 use Rattle.rbac_paths.proofs.PathsFound.{named}
@@ -200,7 +200,7 @@ module _ (p : PolicyView) (ok : IsPolicy p) (all : List Who) (names : List Text)
               | inr told ↦ (told.0, told.1, told.2, told.3, same_Some told.1.node y (sym told.4.1.node ∙ c.1))
             ]
 
-        pub are_ways : AreWaysTo p all steps asked xs
+        pub are_ways : AreWays p all steps asked xs
         are_ways = record {
           each = λ k d low. (let x = get_or xs k d in
               let w = ways.each x (k, low, get_or_default xs k x d low) in

@@ -1,5 +1,5 @@
 -- The ways from whom and what somebody comes to, to what allows what is asked for.
-use Rattle.std.specs.Prelude.{◌≡◌, ◌+◌, ℕ, List, Option, All, AllPairs, Any, Contains, MatchOption}
+use Rattle.std.specs.Prelude.{◌≡◌, ◌↔◌, ◌+◌, ℕ, List, Option, All, AllPairs, Any, Contains, MatchOption}
 use Rattle.rbac_terms.specs.Principals.{Who}
 use Rattle.rbac_model.specs.Policies.{PolicyView}
 use Rattle.rbac_paths.specs.Access.{AccessView, AllowsAccess}
@@ -67,9 +67,14 @@ IsShorter x y = ComesFirst x.count y.count x.node y.node
 -- exactly the users and groups, and the nodes that steps lead to from one of them, from which steps, or
 -- none, lead to a node that allows what is asked for, in order of how many steps do, and then as printed
 -- (own)
-pub record AreWaysTo (p : PolicyView) (principals : List Who) (steps : List Step) (asked : AccessView)
+pub record AreWays (p : PolicyView) (all : List Who) (steps : List Step) (asked : AccessView)
     (xs : List WayView) : Type 0 where
-  pub each : All (IsWay p principals steps asked) xs
-  pub complete : (n : ℕ) (y : NodeView) → IsComeTo p principals steps y
-      → StepsLeadOn p principals steps asked n y → Any (λ x. x.node ≡ y) xs
+  pub each : All (IsWay p all steps asked) xs
+  pub complete : (n : ℕ) (y : NodeView) → IsComeTo p all steps y
+      → StepsLeadOn p all steps asked n y → Any (λ x. x.node ≡ y) xs
   pub ordered : AllPairs IsShorter xs
+
+-- the ways to what is asked for, where the nodes' users and groups are these
+abbrev pub AreWaysTo : PolicyView → List Who → List Step → AccessView → List WayView → Type 0
+AreWaysTo p principals steps asked xs = (all : List Who)
+    × ((who : Who) → Contains all who ↔ Contains principals who) × AreWays p all steps asked xs

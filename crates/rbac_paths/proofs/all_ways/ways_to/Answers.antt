@@ -1,4 +1,4 @@
-use Rattle.std.proofs.Common.{◌≡◌, ◌∙◌, Bor, List, Option, ℕ, ap, map, subst, sym}
+use Rattle.std.proofs.Common.{◌≡◌, ◌∙◌, Bor, Contains, List, Option, ℕ, ap, map, subst, sym}
 use Rattle.std.proofs.lemmas.Result.{IfOk-weaker}
 use Rattle.rbac_terms.specs.Principals.{Who}
 use Rattle.rbac_terms.specs.Text.{Text}
@@ -9,7 +9,6 @@ use Rattle.rbac_paths.specs.NodeLists.{AreNodes}
 use Rattle.rbac_paths.specs.Nodes.{node_of}
 use Rattle.rbac_paths.specs.Paths.{IsGraphOf}
 use Rattle.rbac_paths.specs.TracingWays.{AreLinkedOn, AreWaysAt}
-use Rattle.rbac_paths.specs.WaysTo.{AreWaysTo}
 use Rattle.rbac_paths.specs.declared.node.Node.{Node}
 use Rattle.rbac_paths.specs.declared.steps.Step.{Step}
 use Rattle.rbac_paths.proofs.PathsFound.{held, in_order}
@@ -121,8 +120,12 @@ returns c =
     let order = c.in_ok-reached.reached.order.items in
     let same : all ≡ c.args.principals.now = ap (λ (ws : List (Bor Who)). map (λ (who : Bor Who). who.now) ws) c.as_slice.ensures.value ∙ c.in_ok-all.ensures.same in
     IfOk-weaker c.ways_by.result _ _
-    (λ made is. subst (λ (ps : List Who). AreWaysTo p ps steps asked made.items) same
-    (are_ways p ok all names bound ys are steps asked g graph back c.in_ok-back.ensures.nodes c.in_ok-back.ensures.edges ends c.in_ok-ends.ensures stops found starts c.in_ok-starts.ensures come met order c.in_ok-reached.ensures.order made.items
-    (subst (λ (ss : List (Option Stop)). AreWaysAt p steps asked ys ss stops order made.items) c.as_slice-7.ensures.value
-    (subst (λ (ss : List Step). AreWaysAt p ss asked ys c.as_slice-7.result.now stops order made.items) rows is))))
+    (λ made is. (
+      all,
+      λ who. (subst (λ (ps : List Who). Contains ps who) same, subst (λ (ps : List Who). Contains ps who) (sym same)),
+      are_ways p ok all names bound ys are steps asked g graph back c.in_ok-back.ensures.nodes c.in_ok-back.ensures.edges ends c.in_ok-ends.ensures stops found starts c.in_ok-starts.ensures come met order
+          c.in_ok-reached.ensures.order made.items
+          (subst (λ (ss : List (Option Stop)). AreWaysAt p steps asked ys ss stops order made.items) c.as_slice-7.ensures.value
+          (subst (λ (ss : List Step). AreWaysAt p ss asked ys c.as_slice-7.result.now stops order made.items) rows is)),
+    ))
     c.ways_by.ensures

@@ -1,5 +1,5 @@
-use Rattle.rbac_paths.proofs.OneWays.{one_ways}
+use Rattle.rbac_paths.proofs.OneWays.{one_ways_to}
 use Rattle.rbac_paths.proofs.laws.ways_are_one.Goals as goal
 
 pub returns : goal.returns
-returns c p principals steps asked xs others a b = one_ways p principals steps asked xs others a b
+returns c p principals steps asked xs others a b = one_ways_to p principals steps asked xs others a b
