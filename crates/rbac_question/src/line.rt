@@ -1,6 +1,6 @@
 //! What the texts of a line mean.
 
-ghost use Rattle.std.specs.Prelude.{◌≡◌, ◌⊎◌, ◌↔◌, All, Some, true};
+ghost use Rattle.std.specs.Prelude.{◌≡◌, ◌≢◌, ◌⊎◌, ◌↔◌, All, Some, true};
 ghost use Rattle.std.specs.Prelude.{IfOk, IfErr, MatchOption, MatchResult, map, option_map};
 ghost use Rattle.rbac_token.specs.Marks.{IsTokenOfMark};
 ghost use Rattle.rbac_question.specs.Lines.{namespace_meant, IsQuestion, MeansCanI};
@@ -269,6 +269,7 @@ pub(crate) fn check_question(line: &QuestionLine<'_>) -> Result<(), QuestionFaul
     ensures lacking { LacksWord line.now → result ≡ Err QuestionFault.EmptyWord }
     ensures located { RefusesQuestion line.now QuestionFault.UrlSubresource
         → result ≡ Err QuestionFault.UrlSubresource }
+    ensures unallocated { IfErr result (λ e. e ≢ QuestionFault.NoMemory) }
 {
     if line.verb.is_empty() {
         return Err(QuestionFault::EmptyWord);
