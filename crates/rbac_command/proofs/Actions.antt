@@ -4,15 +4,16 @@ use Rattle.std.specs.Prelude.{◌||◌}
 use Rattle.std.specs.Str.{bytes_eq}
 use Rattle.std.proofs.lemmas.Slice.Eq.{bytes_eq-Decides}
 use Rattle.clap.specs.Words.{Row, Text, first_of}
-use Rattle.rbac_question.specs.Lines.{CanIParts, WhoCanParts, RulesParts, MatrixParts, LintParts, MeansCanI, MeansWhoCan, MeansRules, MeansMatrix, MeansLint, MeansDiff, AcceptsCanI, AcceptsQuestion, RefusesCanI, RefusesQuestion, RefusesRules, RefusesMatrix, RefusesLint, RefusesDiff, HasBadToken, IsMarkGiven}
+use Rattle.rbac_question.specs.Lines.{CanIParts, RulesParts, MatrixParts, LintParts, MeansCanI, MeansRules, MeansMatrix, MeansLint, MeansDiff, AcceptsCanI, RefusesCanI, RefusesRules, RefusesMatrix, RefusesLint, RefusesDiff, HasBadToken, IsMarkGiven}
 use Rattle.rbac_question.specs.PathsLines.{PathsParts, MeansPaths, RefusesPaths}
+use Rattle.rbac_question.specs.WhoCanLines.{WhoCanParts, MeansWhoCan, AcceptsWhoCan, RefusesWhoCan}
 use Rattle.rbac_question.specs.declared.command.Action.{Action}
-use Rattle.rbac_question.specs.declared.command.Action.TheVariants.{CanI, WhoCan, Rules, Matrix, Universe, Lint, Powers, Paths, Diff}
+use Rattle.rbac_question.specs.declared.command.Action.TheVariants.{CanI, WhoCan, WaysTo, Rules, Matrix, Universe, Lint, Powers, Paths, Diff}
 use Rattle.rbac_question.specs.declared.fault.QuestionFault.{QuestionFault}
-use Rattle.rbac_question.specs.declared.fault.QuestionFault.TheVariants.{EmptyWord, UrlSubresource, BadToken, BadPrincipal, BadCode, BadChange, BadStep, NoMemory}
+use Rattle.rbac_question.specs.declared.fault.QuestionFault.TheVariants.{EmptyWord, UrlSubresource, BadToken, BadPrincipal, BadCode, BadChange, BadStep, BadIndirect, NoMemory}
 use Rattle.rbac_question.specs.declared.line.DiffLine.{DiffLine}
 use Rattle.rbac_command.specs.MatrixOptions.{matrix_options_in}
-use Rattle.rbac_command.specs.Meaning.{question_in, parts_in, who_can_in, rules_line_in, paths_line_in, lint_in, diff_in, is_known, DoesAction, IsNumberAt, RefusesAction}
+use Rattle.rbac_command.specs.Meaning.{parts_in, who_can_in, rules_line_in, paths_line_in, lint_in, diff_in, is_known, DoesAction, IsNumberAt, RefusesAction}
 
 first_of_nine : (a b c d e f g h i : Bool) → a || (b || (c || (d || (e || (f || (g || (h || i))))))) ≡ true
     → b ≡ false → c ≡ false → d ≡ false → e ≡ false → f ≡ false → g ≡ false → h ≡ false → i ≡ false → a ≡ true
@@ -50,6 +51,7 @@ as_can_i : (name : Text) (rows : List Row) (r : Result Action QuestionFault) →
     → MatchResult r (DoesAction name rows) (RefusesAction name rows)
 as_can_i name rows (Ok (CanI principal quiet why question)) e h = (e, h.0, h.1)
 as_can_i name rows (Ok (WhoCan options question)) e h = absurd h.1
+as_can_i name rows (Ok (WaysTo chosen question)) e h = absurd h.1
 as_can_i name rows (Ok (Rules principal scope)) e h = absurd h.1
 as_can_i name rows (Ok (Matrix options after limit)) e h = absurd h.1
 as_can_i name rows (Ok (Lint only skip_system)) e h = absurd h.1
@@ -64,6 +66,7 @@ as_can_i name rows (Err BadPrincipal) e h = absurd h
 as_can_i name rows (Err BadCode) e h = absurd h
 as_can_i name rows (Err BadChange) e h = absurd h
 as_can_i name rows (Err BadStep) e h = absurd h
+as_can_i name rows (Err BadIndirect) e h = absurd h
 as_can_i name rows (Err NoMemory) e h = tt
 
 pub can_i_line : (name : Text) (rows : List Row) (l : CanIParts) (r : Result Action QuestionFault) → name ≡ codes "can-i" → l ≡ parts_in rows
@@ -73,10 +76,11 @@ can_i_line name rows l r e same h =
     as_can_i name rows r e (subst (λ (parts : CanIParts). MatchResult r (λ a. AcceptsCanI parts × MeansCanI parts a) (RefusesCanI parts)) same h)
 
 as_who_can : (name : Text) (rows : List Row) (r : Result Action QuestionFault) → name ≡ codes "who-can"
-    → MatchResult r (λ a. AcceptsQuestion (question_in rows) × MeansWhoCan (who_can_in rows) a) (RefusesQuestion (question_in rows))
+    → MatchResult r (λ a. AcceptsWhoCan (who_can_in rows) × MeansWhoCan (who_can_in rows) a) (RefusesWhoCan (who_can_in rows))
     → MatchResult r (DoesAction name rows) (RefusesAction name rows)
 as_who_can name rows (Ok (CanI principal quiet why question)) e h = absurd h.1
 as_who_can name rows (Ok (WhoCan options question)) e h = (e, h.0, h.1)
+as_who_can name rows (Ok (WaysTo chosen question)) e h = (e, h.0, h.1)
 as_who_can name rows (Ok (Rules principal scope)) e h = absurd h.1
 as_who_can name rows (Ok (Matrix options after limit)) e h = absurd h.1
 as_who_can name rows (Ok (Lint only skip_system)) e h = absurd h.1
@@ -90,20 +94,22 @@ as_who_can name rows (Err BadToken) e h = absurd h
 as_who_can name rows (Err BadPrincipal) e h = absurd h
 as_who_can name rows (Err BadCode) e h = absurd h
 as_who_can name rows (Err BadChange) e h = absurd h
-as_who_can name rows (Err BadStep) e h = absurd h
+as_who_can name rows (Err BadStep) e h = inr (e, h)
+as_who_can name rows (Err BadIndirect) e h = (e, h)
 as_who_can name rows (Err NoMemory) e h = tt
 
 pub who_can_line : (name : Text) (rows : List Row) (l : WhoCanParts) (r : Result Action QuestionFault) → name ≡ codes "who-can" → l ≡ who_can_in rows
-    → MatchResult r (λ a. AcceptsQuestion l.question × MeansWhoCan l a) (RefusesQuestion l.question)
+    → MatchResult r (λ a. AcceptsWhoCan l × MeansWhoCan l a) (RefusesWhoCan l)
     → MatchResult r (DoesAction name rows) (RefusesAction name rows)
 who_can_line name rows l r e same h =
-    as_who_can name rows r e (subst (λ (parts : WhoCanParts). MatchResult r (λ a. AcceptsQuestion parts.question × MeansWhoCan parts a) (RefusesQuestion parts.question)) same h)
+    as_who_can name rows r e (subst (λ (parts : WhoCanParts). MatchResult r (λ a. AcceptsWhoCan parts × MeansWhoCan parts a) (RefusesWhoCan parts)) same h)
 
 as_rules : (name : Text) (rows : List Row) (r : Result Action QuestionFault) → name ≡ codes "rules"
     → MatchResult r (MeansRules (rules_line_in rows)) (RefusesRules (rules_line_in rows))
     → MatchResult r (DoesAction name rows) (RefusesAction name rows)
 as_rules name rows (Ok (CanI principal quiet why question)) e h = absurd h
 as_rules name rows (Ok (WhoCan options question)) e h = absurd h
+as_rules name rows (Ok (WaysTo chosen question)) e h = absurd h
 as_rules name rows (Ok (Rules principal scope)) e h = (e, h)
 as_rules name rows (Ok (Matrix options after limit)) e h = absurd h
 as_rules name rows (Ok (Lint only skip_system)) e h = absurd h
@@ -118,6 +124,7 @@ as_rules name rows (Err BadPrincipal) e h = (inl e, h)
 as_rules name rows (Err BadCode) e h = absurd h
 as_rules name rows (Err BadChange) e h = absurd h
 as_rules name rows (Err BadStep) e h = absurd h
+as_rules name rows (Err BadIndirect) e h = absurd h
 as_rules name rows (Err NoMemory) e h = tt
 
 pub rules_line : (name : Text) (rows : List Row) (l : RulesParts) (r : Result Action QuestionFault) → name ≡ codes "rules" → l ≡ rules_line_in rows
@@ -131,6 +138,7 @@ as_paths : (name : Text) (rows : List Row) (r : Result Action QuestionFault) →
     → MatchResult r (DoesAction name rows) (RefusesAction name rows)
 as_paths name rows (Ok (CanI principal quiet why question)) e h = absurd h
 as_paths name rows (Ok (WhoCan options question)) e h = absurd h
+as_paths name rows (Ok (WaysTo chosen question)) e h = absurd h
 as_paths name rows (Ok (Rules principal scope)) e h = absurd h
 as_paths name rows (Ok (Matrix options after limit)) e h = absurd h
 as_paths name rows (Ok (Lint only skip_system)) e h = absurd h
@@ -144,7 +152,8 @@ as_paths name rows (Err BadToken) e h = absurd h
 as_paths name rows (Err BadPrincipal) e h = (inr e, h)
 as_paths name rows (Err BadCode) e h = absurd h
 as_paths name rows (Err BadChange) e h = absurd h
-as_paths name rows (Err BadStep) e h = (e, h)
+as_paths name rows (Err BadStep) e h = inl (e, h)
+as_paths name rows (Err BadIndirect) e h = absurd h
 as_paths name rows (Err NoMemory) e h = tt
 
 pub paths_line : (name : Text) (rows : List Row) (l : PathsParts) (r : Result Action QuestionFault) → name ≡ codes "paths" → l ≡ paths_line_in rows
@@ -158,6 +167,7 @@ as_lint : (name : Text) (rows : List Row) (r : Result Action QuestionFault) → 
     → MatchResult r (DoesAction name rows) (RefusesAction name rows)
 as_lint name rows (Ok (CanI principal quiet why question)) e h = absurd h
 as_lint name rows (Ok (WhoCan options question)) e h = absurd h
+as_lint name rows (Ok (WaysTo chosen question)) e h = absurd h
 as_lint name rows (Ok (Rules principal scope)) e h = absurd h
 as_lint name rows (Ok (Matrix options after limit)) e h = absurd h
 as_lint name rows (Ok (Lint only skip_system)) e h = (e, h)
@@ -172,6 +182,7 @@ as_lint name rows (Err BadPrincipal) e h = absurd h
 as_lint name rows (Err BadCode) e h = (e, h)
 as_lint name rows (Err BadChange) e h = absurd h
 as_lint name rows (Err BadStep) e h = absurd h
+as_lint name rows (Err BadIndirect) e h = absurd h
 as_lint name rows (Err NoMemory) e h = tt
 
 pub lint_line : (name : Text) (rows : List Row) (l : LintParts) (r : Result Action QuestionFault) → name ≡ codes "lint" → l ≡ lint_in rows
@@ -186,6 +197,7 @@ pub matrix_line : (name : Text) (rows : List Row) (l : MatrixParts) (r : Result 
     → MatchResult r (DoesAction name rows) (RefusesAction name rows)
 matrix_line name rows l (Ok (CanI principal quiet why question)) e v f n h = absurd h
 matrix_line name rows l (Ok (WhoCan options question)) e v f n h = absurd h
+matrix_line name rows l (Ok (WaysTo chosen question)) e v f n h = absurd h
 matrix_line name rows l (Ok (Rules principal scope)) e v f n h = absurd h
 matrix_line name rows l (Ok (Matrix options after limit)) e v f n h =
     (e, h.0 ∙ v, subst (λ (t : _). IsMarkGiven t after) f h.1, subst (λ (m : _). IsNumberAt (codes "limit") rows m) (sym h.2) n)
@@ -201,6 +213,7 @@ matrix_line name rows l (Err BadPrincipal) e v f n h = absurd h
 matrix_line name rows l (Err BadCode) e v f n h = absurd h
 matrix_line name rows l (Err BadChange) e v f n h = absurd h
 matrix_line name rows l (Err BadStep) e v f n h = absurd h
+matrix_line name rows l (Err BadIndirect) e v f n h = absurd h
 matrix_line name rows l (Err NoMemory) e v f n h = tt
 
 as_diff : (name : Text) (rows : List Row) (r : Result Action QuestionFault) → name ≡ codes "diff"
@@ -208,6 +221,7 @@ as_diff : (name : Text) (rows : List Row) (r : Result Action QuestionFault) → 
     → MatchResult r (DoesAction name rows) (RefusesAction name rows)
 as_diff name rows (Ok (CanI principal quiet why question)) e h = absurd h
 as_diff name rows (Ok (WhoCan options question)) e h = absurd h
+as_diff name rows (Ok (WaysTo chosen question)) e h = absurd h
 as_diff name rows (Ok (Rules principal scope)) e h = absurd h
 as_diff name rows (Ok (Matrix options after limit)) e h = absurd h
 as_diff name rows (Ok Universe) e h = absurd h
@@ -222,6 +236,7 @@ as_diff name rows (Err BadPrincipal) e h = absurd h
 as_diff name rows (Err BadCode) e h = absurd h
 as_diff name rows (Err BadChange) e h = (e, h)
 as_diff name rows (Err BadStep) e h = absurd h
+as_diff name rows (Err BadIndirect) e h = absurd h
 as_diff name rows (Err NoMemory) e h = tt
 
 pub diff_line : (name : Text) (rows : List Row) (l : DiffLine) (r : Result Action QuestionFault) → name ≡ codes "diff" → l ≡ diff_in rows

@@ -95,6 +95,10 @@ only_rule = record (new_rule (codes "only")) { long = Some (codes "only"); value
 abbrev pub steps_rule : Rule
 steps_rule = record (new_rule (codes "steps")) { long = Some (codes "steps"); value_names = 1 }
 
+-- `--indirect`
+abbrev pub indirect_rule : Rule
+indirect_rule = flag_rule (codes "indirect")
+
 -- `--skip-system`
 abbrev pub skip_system_rule : Rule
 skip_system_rule = flag_rule (codes "skip-system")
@@ -155,9 +159,12 @@ can_i_app =
     (with_rule (new_app (codes "can-i")) user_rule))) quiet_rule) why_rule)
 
 -- who-can [-n NS] [-A] [--in-namespace] [--subresource S] [--anywhere] [--any-name] [--every] [--why]
--- VERB TARGET [FILE]..
+-- [--indirect] [--steps STEPS] VERB TARGET [FILE]..
 abbrev pub who_can_app : App
-who_can_app = with_question (with_holder_options (with_scope (new_app (codes "who-can"))))
+who_can_app =
+    with_question (with_rule
+    (with_rule (with_holder_options (with_scope (new_app (codes "who-can")))) indirect_rule)
+    steps_rule)
 
 -- rules [--groups A,B] [--group G].. [-n NS] [-A] WHO [FILE]..
 abbrev pub rules_app : App

@@ -6,16 +6,16 @@ use Rattle.std.specs.Str.{bytes_eq}
 use Rattle.std.specs.Str.Parse.{IsNumeral, without_leading_plus, digits_value}
 use Rattle.clap.specs.Words.{Row, Text, fault_of, first_of, kind_of, one_of, subcommand_of}
 use Rattle.clap.specs.Kinds.{IsAmong}
-use Rattle.rbac_question.specs.Lines.{QuestionParts, CanIParts, WhoCanParts, WhoParts}
-use Rattle.rbac_question.specs.Lines.{RulesParts, LintParts}
-use Rattle.rbac_question.specs.Lines.{MeansCanI, MeansWhoCan, MeansRules, MeansLint, AcceptsCanI}
-use Rattle.rbac_question.specs.Lines.{AcceptsQuestion, RefusesCanI, RefusesQuestion, HasBadToken}
-use Rattle.rbac_question.specs.Lines.{HasBadPrincipal, HasBadCode, HasBadChange, IsMarkGiven, MeansDiff}
+use Rattle.rbac_question.specs.Lines.{QuestionParts, CanIParts, WhoParts, RulesParts, LintParts}
+use Rattle.rbac_question.specs.Lines.{MeansCanI, MeansRules, MeansLint, AcceptsCanI, RefusesCanI}
+use Rattle.rbac_question.specs.Lines.{HasBadToken, HasBadPrincipal, HasBadCode, HasBadChange}
+use Rattle.rbac_question.specs.Lines.{IsMarkGiven, MeansDiff}
 use Rattle.rbac_question.specs.PathsLines.{PathsParts, MeansPaths, RefusesPaths}
+use Rattle.rbac_question.specs.WhoCanLines.{WhoCanParts, MeansWhoCan, AcceptsWhoCan, RefusesWhoCan}
 use Rattle.rbac_question.specs.declared.command.Action.{Action}
-use Rattle.rbac_question.specs.declared.command.Action.TheVariants.{CanI, WhoCan, Rules, Matrix}
-use Rattle.rbac_question.specs.declared.command.Action.TheVariants.{Universe, Lint, Powers, Paths}
-use Rattle.rbac_question.specs.declared.command.Action.TheVariants.{Diff}
+use Rattle.rbac_question.specs.declared.command.Action.TheVariants.{CanI, WhoCan, WaysTo, Rules}
+use Rattle.rbac_question.specs.declared.command.Action.TheVariants.{Matrix, Universe, Lint}
+use Rattle.rbac_question.specs.declared.command.Action.TheVariants.{Powers, Paths, Diff}
 use Rattle.rbac_question.specs.declared.command.Command.{Command}
 use Rattle.rbac_question.specs.declared.fault.QuestionFault.{QuestionFault}
 use Rattle.rbac_question.specs.declared.fault.QuestionFault.TheVariants as question
@@ -65,7 +65,12 @@ parts_in rows = record {
 
 -- the parts of a `who-can` line
 abbrev pub who_can_in : List Row → WhoCanParts
-who_can_in rows = record { options = holder_options_in rows; question = question_in rows }
+who_can_in rows = record {
+  indirect = has_flag (codes "indirect") rows;
+  steps = first_of (codes "steps") rows;
+  options = holder_options_in rows;
+  question = question_in rows;
+}
 
 -- the parts of a line that name somebody
 abbrev pub who_in : List Row → WhoParts
@@ -138,8 +143,11 @@ DoesAction name rows (CanI principal quiet why question) =
     (name ≡ codes "can-i") × AcceptsCanI (parts_in rows)
     × MeansCanI (parts_in rows) (CanI principal quiet why question)
 DoesAction name rows (WhoCan options question) =
-    (name ≡ codes "who-can") × AcceptsQuestion (question_in rows)
+    (name ≡ codes "who-can") × AcceptsWhoCan (who_can_in rows)
     × MeansWhoCan (who_can_in rows) (WhoCan options question)
+DoesAction name rows (WaysTo chosen question) =
+    (name ≡ codes "who-can") × AcceptsWhoCan (who_can_in rows)
+    × MeansWhoCan (who_can_in rows) (WaysTo chosen question)
 DoesAction name rows (Rules principal scope) =
     (name ≡ codes "rules") × MeansRules (rules_line_in rows) (Rules principal scope)
 DoesAction name rows (Matrix options after limit) =
@@ -167,8 +175,8 @@ Means (Some p) c = MeansRows p.0 p.1 c
 -- ---- refusals
 
 -- the refusal of a subcommand's matches: out of memory may come at any time; besides it, `matrix`
--- has only U4, `rules` only U5, `lint` only U6, `diff` only U7 and `paths` only U5 and U8, no other
--- has these, and `universe` and `powers` have none
+-- has only U4, `rules` only U5, `lint` only U6, `diff` only U7, `paths` only U5 and U8, `can-i` only
+-- U2 and U3, `who-can` these and U8 and U9, and `universe` and `powers` have none
 abbrev pub RefusesAction : Text → List Row → QuestionFault → Type 0
 RefusesAction name rows question.NoMemory = Unit {0}
 RefusesAction name rows question.BadToken = (name ≡ codes "matrix")
@@ -177,11 +185,14 @@ RefusesAction name rows question.BadPrincipal = ((name ≡ codes "rules") ⊎ (n
     × HasBadPrincipal (who_in rows)
 RefusesAction name rows question.BadCode = (name ≡ codes "lint")
     × HasBadCode (first_of (codes "only") rows)
-RefusesAction name rows question.BadStep = (name ≡ codes "paths")
-    × RefusesPaths (paths_line_in rows) question.BadStep
+RefusesAction name rows question.BadStep =
+    ((name ≡ codes "paths") × RefusesPaths (paths_line_in rows) question.BadStep)
+    ⊎ ((name ≡ codes "who-can") × RefusesWhoCan (who_can_in rows) question.BadStep)
+RefusesAction name rows question.BadIndirect = (name ≡ codes "who-can")
+    × RefusesWhoCan (who_can_in rows) question.BadIndirect
 RefusesAction name rows question.BadChange = (name ≡ codes "diff") × HasBadChange (diff_in rows)
 RefusesAction name rows e = ((name ≡ codes "can-i") × RefusesCanI (parts_in rows) e)
-    ⊎ ((name ≡ codes "who-can") × RefusesQuestion (question_in rows) e)
+    ⊎ ((name ≡ codes "who-can") × RefusesWhoCan (who_can_in rows) e)
 
 -- a command line is refused with the refusal of its subcommand's matches
 abbrev pub IsCauseOf : Option (Text × List Row) → QuestionFault → Type 0

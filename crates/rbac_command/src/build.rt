@@ -53,11 +53,23 @@ namespace alone: --anywhere counts all RoleBindings; each line's binding shows i
 With --why four fields follow the binding: ROLE, SOURCE, RULE and SUBJECT, as in can-i --help. They
 name the binding's first rule that allows it, and its first subject that is the holder.
 
+--indirect also lists who comes step by step to somebody who may. A line then has eleven fields:
+  STEPS    the least number of steps that lead from WHO to somebody who may; 0 if WHO may
+  WHO      u:USER, g:GROUP, a role that can be bound, or * for everything
+  WHERE    where the role or * counts: a namespace, or * for the whole cluster; - for u: and g:
+  TO       the one after WHO on the way: the WHO of a line above; - if WHO may
+  WHERE    where TO counts
+  STEP     how WHO takes over TO, as in powers --help
+and BINDING, ROLE, SOURCE, RULE and SUBJECT, as in paths --help: of what grants WHO the step or, if
+WHO may, VERB TARGET. Follow TO upwards. --indirect excludes --anywhere, --any-name, --every and
+--why.
+
 Examples:
   rbacaudit who-can -n dev delete secrets cluster.json namespaced.json
   rbacaudit who-can -n dev --why delete secrets cluster.json namespaced.json
   rbacaudit who-can --anywhere --every get secrets cluster.json namespaced.json
   rbacaudit who-can -n dev --any-name get secrets cluster.json namespaced.json
+  rbacaudit who-can -n dev --indirect --steps run,exec get secrets cluster.json namespaced.json
   rbacaudit who-can get /metrics cluster.json";
 
 const RULES_MORE: &str = "A line has ten fields, joined by tabs:
@@ -200,12 +212,20 @@ Examples:
   rbacaudit diff --before monday/*.json --after friday/*.json
   rbacaudit diff --before prod/*.json --without old.json --with new.json";
 
-// The help texts of options that several commands have.
+// The help texts of options that several commands have, and of --indirect.
 const NAMESPACE: &str = "Namespace to check (default: default)";
 
 const ALL: &str = "Check all namespaces at once: only ClusterRoleBindings grant this; overrides -n";
 
 const WHY: &str = "After yes, print why: BINDING, its ROLE, the SOURCE role, its RULE, the SUBJECT";
+
+const INDIRECT: &str =
+    "List also who comes to it step by step; excludes --anywhere, --any-name, --every and --why";
+
+const WHO_CAN_STEPS: &str =
+    "With --indirect, only these steps count, e.g. run,exec (default: all of powers)";
+
+const STEPS: &str = "Only these steps count, e.g. run,exec (default: all of powers)";
 
 const RULES_NAMESPACE: &str =
     "Namespace whose RoleBindings count, with all ClusterRoleBindings (default: any)";
@@ -426,16 +446,11 @@ fn only_arg<'a>(alloc: Global) -> Arg<'a>
     )
 }
 
-fn steps_arg<'a>(alloc: Global) -> Arg<'a>
+fn steps_arg<'a>(alloc: Global, help: &'a str) -> Arg<'a>
     ensures rule { rule_of result ≡ steps_rule }
     ensures local { result.global ≡ false }
 {
-    option(
-        alloc,
-        "steps",
-        "STEPS",
-        "Only these steps count, e.g. run,exec (default: all of powers)",
-    )
+    option(alloc, "steps", "STEPS", help)
 }
 
 fn skip_system_arg<'a>(alloc: Global) -> Arg<'a>
@@ -597,6 +612,8 @@ fn who_can<'a>(alloc: Global) -> Built<'a>
     );
     let command = with_scope(alloc, Ok(command));
     let command = with_holder_options(alloc, command);
+    let command = with(command, flag(alloc, "indirect", INDIRECT));
+    let command = with(command, steps_arg(alloc, WHO_CAN_STEPS));
     with_question(alloc, command)
 }
 
@@ -684,7 +701,7 @@ fn paths<'a>(alloc: Global) -> Built<'a>
         PATHS_MORE,
     );
     let command = with_groups(alloc, Ok(command));
-    let command = with(command, steps_arg(alloc));
+    let command = with(command, steps_arg(alloc, STEPS));
     with_who(alloc, command)
 }
 

@@ -13,7 +13,7 @@ pub enum UsageFault {
     /// U1: refused by `clap`, or help or the version was asked for. Its `Display` is `clap`'s text,
     /// and `use_stderr` says whether it is a refusal.
     Refused(clap::Error),
-    /// U2 to U8, or out of memory: what the words ask.
+    /// U2 to U9, or out of memory: what the words ask.
     Question(QuestionFault),
 }
 

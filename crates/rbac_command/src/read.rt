@@ -87,7 +87,10 @@ fn line_of<'m, 'a>(matches: &'m ArgMatches<'a>) -> CanILine<'m, 'a>
 fn who_can_line_of<'a>(matches: &ArgMatches<'a>) -> WhoCanLine<'a>
     ensures { result ≡ who_can_in (rows_of (found_of matches.now)) }
 {
+    let steps = value_of(matches, "steps");
     WhoCanLine {
+        indirect: flag_of(matches, "indirect"),
+        steps,
         options: holder_options_of(matches),
         question: question_of(matches),
     }
@@ -304,7 +307,7 @@ fn meaning_of(alloc: Global, matches: &ArgMatches<'_>) -> Result<Command, Questi
 
 /// The command that the words mean; the first word is the program's name.
 ///
-/// U1 if `clap` refuses the words, or help or the version is asked for, then U2 to U8.
+/// U1 if `clap` refuses the words, or help or the version is asked for, then U2 to U9.
 pub fn command_of(alloc: Global, words: &[String]) -> Result<Command, UsageFault>
     ensures { IsAnswer (map string_bytes words.now) result }
 {

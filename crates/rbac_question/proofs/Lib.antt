@@ -1,3 +1,4 @@
 pub mod Named
+pub mod Questions
 pub mod Texts
 pub mod TypeWords

@@ -8,7 +8,8 @@ use Rattle.rbac_question.specs.declared.fault.QuestionFault.{QuestionFault}
 use Rattle.rbac_question.specs.declared.fault.QuestionFault.TheVariants.{EmptyWord, UrlSubresource}
 use Rattle.rbac_question.specs.declared.fault.QuestionFault.TheVariants.{BadToken, BadPrincipal}
 use Rattle.rbac_question.specs.declared.fault.QuestionFault.TheVariants.{BadCode, BadChange}
-use Rattle.rbac_question.specs.declared.fault.QuestionFault.TheVariants.{BadStep, NoMemory}
+use Rattle.rbac_question.specs.declared.fault.QuestionFault.TheVariants.{BadStep, BadIndirect}
+use Rattle.rbac_question.specs.declared.fault.QuestionFault.TheVariants.{NoMemory}
 
 -- a type word is not empty, has something before its first dot, and has no slash
 abbrev pub IsTypeWord : Text → Type 0
@@ -47,4 +48,5 @@ RefusesTarget target subresource BadPrincipal = ⊥
 RefusesTarget target subresource BadCode = ⊥
 RefusesTarget target subresource BadChange = ⊥
 RefusesTarget target subresource BadStep = ⊥
+RefusesTarget target subresource BadIndirect = ⊥
 RefusesTarget target subresource NoMemory = Unit {0}

@@ -3,7 +3,8 @@ use Rattle.rbac_question.specs.declared.fault.QuestionFault.{QuestionFault}
 use Rattle.rbac_question.specs.declared.fault.QuestionFault.TheVariants.{EmptyWord, UrlSubresource}
 use Rattle.rbac_question.specs.declared.fault.QuestionFault.TheVariants.{BadToken, BadPrincipal}
 use Rattle.rbac_question.specs.declared.fault.QuestionFault.TheVariants.{BadCode, BadChange}
-use Rattle.rbac_question.specs.declared.fault.QuestionFault.TheVariants.{BadStep, NoMemory}
+use Rattle.rbac_question.specs.declared.fault.QuestionFault.TheVariants.{BadStep, BadIndirect}
+use Rattle.rbac_question.specs.declared.fault.QuestionFault.TheVariants.{NoMemory}
 use Rattle.rbac_token.specs.declared.fault.TokenFault.{TokenFault}
 use Rattle.rbac_token.specs.declared.fault.TokenFault.TheVariants as token
 
@@ -17,6 +18,8 @@ fault_text BadCode = codes "U6 bad code"
 fault_text BadChange = codes "U7 give either --after, or --with or --without"
 fault_text BadStep = codes "U8 steps are impersonate, token, run, exec, secrets, nodes, bind, "
     ++ codes "escalate, certificates, webhooks"
+fault_text BadIndirect = codes "U9 --indirect excludes --anywhere, --any-name, --every and --why; "
+    ++ codes "--steps needs --indirect"
 fault_text NoMemory = codes "out of memory"
 
 -- why a text is no token, as the refusal of the line that contains it

@@ -2,3 +2,5 @@ pub mod Asked
 pub mod Faults
 pub mod Lines
 pub mod PathsLines
+pub mod StepsLines
+pub mod WhoCanLines

@@ -10,18 +10,18 @@ use Rattle.rbac_token.specs.Marks.{IsTokenOfMark}
 use Rattle.rbac_token.specs.declared.mark.Mark.{Mark}
 use Rattle.rbac_question.specs.Asked.{AsksFor, LacksType, HasUrlSubresource}
 use Rattle.rbac_question.specs.declared.command.Action.{Action}
-use Rattle.rbac_question.specs.declared.command.Action.TheVariants.{CanI, WhoCan, Matrix, Rules}
+use Rattle.rbac_question.specs.declared.command.Action.TheVariants.{CanI, Matrix, Rules}
 use Rattle.rbac_question.specs.declared.command.Action.TheVariants.{Lint, Diff}
 use Rattle.rbac_question.specs.declared.command.Change.{Change}
 use Rattle.rbac_question.specs.declared.command.Change.TheVariants.{After, Over}
-use Rattle.rbac_question.specs.declared.command.HolderOptions.{HolderOptions}
 use Rattle.rbac_question.specs.declared.command.MatrixOptions.{MatrixOptions}
 use Rattle.rbac_question.specs.declared.command.Question.{Question}
 use Rattle.rbac_question.specs.declared.fault.QuestionFault.{QuestionFault}
 use Rattle.rbac_question.specs.declared.fault.QuestionFault.TheVariants.{EmptyWord, UrlSubresource}
 use Rattle.rbac_question.specs.declared.fault.QuestionFault.TheVariants.{BadToken, BadPrincipal}
 use Rattle.rbac_question.specs.declared.fault.QuestionFault.TheVariants.{BadCode, BadChange}
-use Rattle.rbac_question.specs.declared.fault.QuestionFault.TheVariants.{BadStep, NoMemory}
+use Rattle.rbac_question.specs.declared.fault.QuestionFault.TheVariants.{BadStep, BadIndirect}
+use Rattle.rbac_question.specs.declared.fault.QuestionFault.TheVariants.{NoMemory}
 use Rattle.rbac_question.specs.declared.line.DiffLine.{DiffLine}
 
 -- the parts of a line that ask a question; the text of an option that isn't given is empty
@@ -40,11 +40,6 @@ pub record CanIParts : Type 0 where
   pub whole_groups : List Text
   pub quiet : Bool
   pub why : Bool
-  pub question : QuestionParts
-
--- the parts of a `who-can` line
-pub record WhoCanParts : Type 0 where
-  pub options : HolderOptions
   pub question : QuestionParts
 
 -- the parts of a line that name somebody: WHO, what follows `--groups`, empty if it isn't given, and
@@ -114,17 +109,6 @@ MeansCanI l (CanI principal quiet why question) =
     (principal ≡ AsUser l.user (groups_given l.groups l.whole_groups)) × (quiet ≡ l.quiet)
     × (why ≡ l.why) × IsQuestion l.question question
 MeansCanI l action = ⊥
-
--- `-A` wins over `--anywhere` too (own)
-abbrev pub options_meant : Bool → HolderOptions → HolderOptions
-options_meant true given = record given { anywhere = false }
-options_meant false given = given
-
--- what a `who-can` line means: it asks who is allowed what the question asks, with these options
-abbrev pub MeansWhoCan : WhoCanParts → Action → Type 0
-MeansWhoCan l (WhoCan options question) =
-    (options ≡ options_meant l.question.all_namespaces l.options) × IsQuestion l.question question
-MeansWhoCan l action = ⊥
 
 -- WHO names the principal: `u:` and a user's name, who is given the groups of `--groups` and
 -- `--group`, or `g:` and a group's name, where none of these options is given or all are empty;
@@ -218,6 +202,7 @@ RefusesQuestion l BadPrincipal = ⊥
 RefusesQuestion l BadCode = ⊥
 RefusesQuestion l BadChange = ⊥
 RefusesQuestion l BadStep = ⊥
+RefusesQuestion l BadIndirect = ⊥
 RefusesQuestion l NoMemory = Unit {0}
 
 -- a `can-i` line without U2 and U3; here an empty USER is U2 too (own)
@@ -233,6 +218,7 @@ RefusesCanI l BadPrincipal = ⊥
 RefusesCanI l BadCode = ⊥
 RefusesCanI l BadChange = ⊥
 RefusesCanI l BadStep = ⊥
+RefusesCanI l BadIndirect = ⊥
 RefusesCanI l NoMemory = Unit {0}
 
 -- U4: a text is given that isn't the token of any mark, with or without `--every` (own)
@@ -249,6 +235,7 @@ RefusesMatrix l BadPrincipal = ⊥
 RefusesMatrix l BadCode = ⊥
 RefusesMatrix l BadChange = ⊥
 RefusesMatrix l BadStep = ⊥
+RefusesMatrix l BadIndirect = ⊥
 RefusesMatrix l NoMemory = Unit {0}
 
 -- U5: WHO, `--groups` and `--group` name no principal (own)
@@ -264,6 +251,7 @@ RefusesWho l BadPrincipal = HasBadPrincipal l
 RefusesWho l BadCode = ⊥
 RefusesWho l BadChange = ⊥
 RefusesWho l BadStep = ⊥
+RefusesWho l BadIndirect = ⊥
 RefusesWho l NoMemory = Unit {0}
 
 -- the refusal of a `rules` line
@@ -285,6 +273,7 @@ RefusesLint l BadPrincipal = ⊥
 RefusesLint l BadCode = HasBadCode l.only
 RefusesLint l BadChange = ⊥
 RefusesLint l BadStep = ⊥
+RefusesLint l BadIndirect = ⊥
 RefusesLint l NoMemory = Unit {0}
 
 -- U7: the files tell of no change, or of more than one (own)

@@ -1,54 +1,27 @@
 -- What a `paths` line means.
-use Rattle.std.specs.Prelude.{◌≡◌, Bool, List, Option, Some, None, All, Any, filter, vec_items}
-use Rattle.std.specs.List.{list_any}
-use Rattle.std.specs.Str.{bytes_eq}
+use Rattle.std.specs.Prelude.{◌≡◌, Option, vec_items}
 use Rattle.rbac_terms.specs.Text.{Text}
-use Rattle.rbac_paths.specs.Steps.{steps, step_word}
-use Rattle.rbac_paths.specs.declared.steps.Step.{Step}
 use Rattle.rbac_question.specs.Lines.{WhoParts, NamesPrincipal, HasBadPrincipal}
-use Rattle.rbac_question.specs.Lines.{parts_between, comma}
+use Rattle.rbac_question.specs.StepsLines.{AreStepWords, HasBadStep, steps_meant}
 use Rattle.rbac_question.specs.declared.command.Action.{Action}
 use Rattle.rbac_question.specs.declared.command.Action.TheVariants.{Paths}
 use Rattle.rbac_question.specs.declared.fault.QuestionFault.{QuestionFault}
 use Rattle.rbac_question.specs.declared.fault.QuestionFault.TheVariants.{EmptyWord, UrlSubresource}
 use Rattle.rbac_question.specs.declared.fault.QuestionFault.TheVariants.{BadToken, BadPrincipal}
 use Rattle.rbac_question.specs.declared.fault.QuestionFault.TheVariants.{BadCode, BadChange}
-use Rattle.rbac_question.specs.declared.fault.QuestionFault.TheVariants.{BadStep, NoMemory}
+use Rattle.rbac_question.specs.declared.fault.QuestionFault.TheVariants.{BadStep, BadIndirect}
+use Rattle.rbac_question.specs.declared.fault.QuestionFault.TheVariants.{NoMemory}
 
 -- the parts of a `paths` line: those that name somebody, and what follows `--steps`
 pub record PathsParts : Type 0 where
   pub who : WhoParts
   pub steps : Option Text
 
--- the text is the word of a step of the table, exactly so written
-unfoldable pub IsStepWord : Text → Type 0
-IsStepWord word = Any (λ step. word ≡ step_word step) steps
-
--- each part between the commas of what follows `--steps` is the word of a step; an empty text has
--- one part, which is empty (own)
-abbrev pub AreStepWords : Option Text → Type 0
-AreStepWords None = Unit {0}
-AreStepWords (Some text) = All IsStepWord (parts_between comma text)
-
--- the text names the step: one of the parts between its commas is the step's word
-abbrev pub names_step : Text → Step → Bool
-names_step text step = list_any (bytes_eq (step_word step)) (parts_between comma text)
-
--- the steps that count: those that `--steps` names, each once, in the order of the table; without
--- it all of the table (own)
-abbrev pub steps_meant : Option Text → List Step
-steps_meant None = steps
-steps_meant (Some text) = filter (names_step text) steps
-
 -- what a `paths` line means: it asks whom the principal comes to by these steps
 abbrev pub MeansPaths : PathsParts → Action → Type 0
 MeansPaths l (Paths principal chosen) = NamesPrincipal l.who principal × AreStepWords l.steps
     × (vec_items chosen ≡ steps_meant l.steps)
 MeansPaths l action = ⊥
-
--- U8: a text is given of which a part between commas isn't the word of a step (own)
-abbrev pub HasBadStep : Option Text → Type 0
-HasBadStep given = ¬ AreStepWords given
 
 -- the least refusal of a `paths` line; out of memory may come at any time
 abbrev pub RefusesPaths : PathsParts → QuestionFault → Type 0
@@ -59,4 +32,5 @@ RefusesPaths l BadPrincipal = HasBadPrincipal l.who
 RefusesPaths l BadCode = ⊥
 RefusesPaths l BadChange = ⊥
 RefusesPaths l BadStep = (¬ HasBadPrincipal l.who) × HasBadStep l.steps
+RefusesPaths l BadIndirect = ⊥
 RefusesPaths l NoMemory = Unit {0}

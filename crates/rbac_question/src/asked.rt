@@ -1,6 +1,6 @@
 //! What TARGET and `--subresource` ask for.
 
-ghost use Rattle.std.specs.Prelude.{◌≡◌, IsTrue, ◌↔◌, IfOk, OnOk, IfErr};
+ghost use Rattle.std.specs.Prelude.{◌≡◌, ◌≢◌, IsTrue, ◌↔◌, IfOk, OnOk, IfErr};
 ghost use Rattle.rbac_terms.specs.Targets.{IsPath};
 ghost use Rattle.rbac_question.specs.Asked.{IsAskable, AsksFor, RefusesTarget, IsTypeAndName};
 ghost use Rattle.rbac_question.specs.Asked.{LacksType, HasUrlSubresource};
@@ -82,6 +82,7 @@ pub(crate) fn check_target(target: &str, subresource: &str) -> Result<(), Questi
     ensures lacking { LacksType target.now → result ≡ Err QuestionFault.EmptyWord }
     ensures located { ¬ LacksType target.now → HasUrlSubresource target.now subresource.now
         → result ≡ Err QuestionFault.UrlSubresource }
+    ensures unallocated { IfErr result (λ e. e ≢ QuestionFault.NoMemory) }
 {
     if lacks_type(target) {
         return Err(QuestionFault::EmptyWord);

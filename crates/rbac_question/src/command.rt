@@ -74,6 +74,13 @@ pub enum Action {
         /// What is asked.
         question: Question,
     },
+    /// Lists who comes to somebody who is allowed what is asked, step by step.
+    WaysTo {
+        /// The steps that count: each at most once, in the order of the table.
+        steps: Vec<Step>,
+        /// What is asked.
+        question: Question,
+    },
     /// Lists the rules that a principal has.
     Rules {
         /// Who is asked about: the user or the group of WHO, a user with the groups of `--groups`

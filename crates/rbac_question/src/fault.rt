@@ -11,6 +11,10 @@ use std::fmt;
 const BAD_STEP: &str = "U8 steps are impersonate, token, run, exec, secrets, nodes, bind, \
     escalate, certificates, webhooks";
 
+// The text of U9, which says what goes with what.
+const BAD_INDIRECT: &str = "U9 --indirect excludes --anywhere, --any-name, --every and --why; \
+    --steps needs --indirect";
+
 /// Why the texts of a line are refused (own).
 #[derive(Debug, Drop, Clone, Copy, PartialEq, Eq)]
 pub enum QuestionFault {
@@ -28,6 +32,9 @@ pub enum QuestionFault {
     BadChange,
     /// U8: a part of what follows `--steps`, between its commas, isn't the word of a step.
     BadStep,
+    /// U9: `who-can` has `--indirect` with `--why`, `--every`, `--anywhere` or `--any-name`, or it has
+    /// `--steps` without `--indirect`.
+    BadIndirect,
     /// Out of memory.
     NoMemory,
 }
@@ -82,6 +89,7 @@ impl fmt::Display for QuestionFault {
             QuestionFault::BadCode => "U6 bad code",
             QuestionFault::BadChange => "U7 give either --after, or --with or --without",
             QuestionFault::BadStep => BAD_STEP,
+            QuestionFault::BadIndirect => BAD_INDIRECT,
             QuestionFault::NoMemory => "out of memory",
         };
         f.write_str(text)

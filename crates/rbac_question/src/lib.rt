@@ -7,13 +7,16 @@ mod command;
 mod fault;
 mod line;
 mod paths_line;
+mod steps_line;
 mod who;
+mod who_can_line;
 
 pub use asked::{Asked, AskedFor};
 pub use command::{Action, Change, Command, HolderOptions, MatrixOptions, Question};
 pub use fault::QuestionFault;
-pub use line::{CanILine, DiffLine, LintLine, MatrixLine, QuestionLine, RulesLine, WhoCanLine};
+pub use line::{CanILine, DiffLine, LintLine, MatrixLine, QuestionLine, RulesLine};
 pub use paths_line::PathsLine;
 pub use rbac_paths::Step;
 pub use rbac_terms::Scope;
 pub use who::WhoLine;
+pub use who_can_line::WhoCanLine;

@@ -1,11 +1,10 @@
 //! What the texts of a line mean.
 
-ghost use Rattle.std.specs.Prelude.{◌≡◌, ◌⊎◌, ◌↔◌, All, Some, true};
+ghost use Rattle.std.specs.Prelude.{◌≡◌, ◌≢◌, ◌⊎◌, ◌↔◌, All, Some, true};
 ghost use Rattle.std.specs.Prelude.{IfOk, IfErr, MatchOption, MatchResult, map, option_map};
 ghost use Rattle.rbac_token.specs.Marks.{IsTokenOfMark};
-ghost use Rattle.rbac_question.specs.Lines.{namespace_meant, options_meant};
-ghost use Rattle.rbac_question.specs.Lines.{IsQuestion, MeansCanI};
-ghost use Rattle.rbac_question.specs.Lines.{MeansWhoCan, MeansMatrix, LacksWord, AcceptsQuestion};
+ghost use Rattle.rbac_question.specs.Lines.{namespace_meant, IsQuestion, MeansCanI};
+ghost use Rattle.rbac_question.specs.Lines.{MeansMatrix, LacksWord, AcceptsQuestion};
 ghost use Rattle.rbac_question.specs.Lines.{RefusesQuestion, AcceptsCanI, RefusesCanI};
 ghost use Rattle.rbac_question.specs.Lines.{RefusesMatrix, HasBadToken, MeansRules};
 ghost use Rattle.rbac_question.specs.Lines.{RefusesRules, HasBadPrincipal};
@@ -14,7 +13,7 @@ ghost use Rattle.rbac_question.specs.Lines.{IsCodeWord, AreCodesIn, HasBadCode, 
 ghost use Rattle.rbac_question.specs.Lines.{RefusesLint, MeansDiff, RefusesDiff};
 
 use crate::asked::{Asked, check_target};
-use crate::command::{Action, Change, HolderOptions, MatrixOptions, Question};
+use crate::command::{Action, Change, MatrixOptions, Question};
 use crate::fault::QuestionFault;
 use crate::who::{WhoLine, principal_from, principal_of};
 use rbac_terms::{Scope, Word};
@@ -85,26 +84,6 @@ impl<'m, 'a> Model for CanILine<'m, 'a> {
       whole_groups = names_in (option_map (λ names. map (λ n. n.now) names.now) l.whole_groups);
       quiet = l.quiet;
       why = l.why;
-      question = l.question;
-    } };
-}
-
-/// The parts of a `who-can` line.
-#[derive(Drop)]
-pub struct WhoCanLine<'a> {
-    /// Which of the options with these names are given.
-    pub options: HolderOptions,
-    /// The parts that ask the question.
-    pub question: QuestionLine<'a>,
-}
-
-impl<'a> Model for WhoCanLine<'a> {
-    ghost use Rattle.rbac_question.specs.Lines.{WhoCanParts};
-
-    ghost Value = { WhoCanParts };
-
-    ghost view = { λ l. record {
-      options = l.options;
       question = l.question;
     } };
 }
@@ -285,11 +264,12 @@ fn codes_of(alloc: Global, text: &str) -> Result<Vec<u8>, QuestionFault>
 
 // Why a line asks no question: U2 if VERB or TARGET is empty, or TARGET begins with `.`; otherwise
 // U3 if a URL has a subresource.
-fn check_question(line: &QuestionLine<'_>) -> Result<(), QuestionFault>
+pub(crate) fn check_question(line: &QuestionLine<'_>) -> Result<(), QuestionFault>
     ensures answer { MatchResult result (λ _. AcceptsQuestion line.now) (RefusesQuestion line.now) }
     ensures lacking { LacksWord line.now → result ≡ Err QuestionFault.EmptyWord }
     ensures located { RefusesQuestion line.now QuestionFault.UrlSubresource
         → result ≡ Err QuestionFault.UrlSubresource }
+    ensures unallocated { IfErr result (λ e. e ≢ QuestionFault.NoMemory) }
 {
     if line.verb.is_empty() {
         return Err(QuestionFault::EmptyWord);
@@ -312,7 +292,7 @@ fn check_can_i(line: &CanILine<'_, '_>) -> Result<(), QuestionFault>
 }
 
 // The question that a line asks, apart from who asks it.
-fn question_of(alloc: Global, line: &QuestionLine<'_>) -> Result<Question, AllocError>
+pub(crate) fn question_of(alloc: Global, line: &QuestionLine<'_>) -> Result<Question, AllocError>
     requires { AcceptsQuestion line.now }
     ensures { IfOk result (IsQuestion line.now) }
 {
@@ -322,16 +302,6 @@ fn question_of(alloc: Global, line: &QuestionLine<'_>) -> Result<Question, Alloc
         verb: Word::from_slice(alloc, line.verb.as_bytes())?,
         asked: Asked::from_target(alloc, line.target, line.subresource)?,
     })
-}
-
-// The options of `who-can` that are meant: `-A` wins over `--anywhere` too (own).
-fn options_from(all: bool, given: HolderOptions) -> HolderOptions
-    ensures { result ≡ options_meant all given }
-{
-    HolderOptions {
-        anywhere: given.anywhere && !all,
-        ..given
-    }
 }
 
 // What a `can-i` line means that isn't refused.
@@ -366,25 +336,6 @@ impl Action {
     {
         check_can_i(line)?;
         can_i_from(alloc, line)
-    }
-
-    /// What a `who-can` line means.
-    ///
-    /// U2 if VERB or TARGET is empty, or TARGET begins with `.`; otherwise U3 if a URL has a
-    /// subresource. Both are refused before anything is allocated.
-    pub fn who_can(alloc: Global, line: &WhoCanLine<'_>) -> Result<Self, QuestionFault>
-        ensures answer { MatchResult result
-            (λ action. AcceptsQuestion line.now.question × MeansWhoCan line.now action)
-            (RefusesQuestion line.now.question) }
-        ensures lacking { LacksWord line.now.question → result ≡ Err QuestionFault.EmptyWord }
-        ensures located { RefusesQuestion line.now.question QuestionFault.UrlSubresource
-            → result ≡ Err QuestionFault.UrlSubresource }
-    {
-        check_question(&line.question)?;
-        Ok(Action::WhoCan {
-            options: options_from(line.question.all_namespaces, line.options),
-            question: question_of(alloc, &line.question)?,
-        })
     }
 
     /// What a `rules` line means.

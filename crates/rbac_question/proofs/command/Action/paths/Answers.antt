@@ -1,6 +1,7 @@
 use Rattle.std.proofs.Common.{◌≡◌, ◌∙◌, false, subst, sym, true}
 use Rattle.rbac_question.specs.Lines.{HasBadPrincipal}
-use Rattle.rbac_question.specs.PathsLines.{AreStepWords, PathsParts}
+use Rattle.rbac_question.specs.PathsLines.{PathsParts}
+use Rattle.rbac_question.specs.StepsLines.{AreStepWords}
 use Rattle.rbac_question.proofs.command.Action.paths.Goals as goal
 
 pub returns-then-not-names_steps-clause-answer : goal.returns-then-not-names_steps-clause-answer

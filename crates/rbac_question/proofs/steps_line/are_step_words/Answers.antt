@@ -2,9 +2,9 @@ use Rattle.std.proofs.Common.{lit<, rules, tests}
 use Rattle.std.proofs.lemmas.Iterator.{cases_from_all}
 use Rattle.std.proofs.lemmas.Iterator.Splits.{YieldsList-from_str_split}
 use Rattle.rbac_question.specs.Lines.{comma, parts_between}
-use Rattle.rbac_question.specs.PathsLines.{IsStepWord}
+use Rattle.rbac_question.specs.StepsLines.{IsStepWord}
 use Rattle.rbac_question.proofs.Texts.{all_or_one}
-use Rattle.rbac_question.proofs.paths_line.are_step_words.Goals as goal
+use Rattle.rbac_question.proofs.steps_line.are_step_words.Goals as goal
 
 pub returns : goal.returns
 returns c =

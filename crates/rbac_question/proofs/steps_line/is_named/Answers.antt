@@ -4,7 +4,7 @@ use Rattle.std.proofs.lemmas.Iterator.Search.{any_from_yields_List}
 use Rattle.std.proofs.lemmas.Iterator.Splits.{YieldsList-from_str_split}
 use Rattle.rbac_paths.specs.Steps.{step_word}
 use Rattle.rbac_question.specs.Lines.{comma}
-use Rattle.rbac_question.proofs.paths_line.is_named.Goals as goal
+use Rattle.rbac_question.proofs.steps_line.is_named.Goals as goal
 
 pub returns : goal.returns
 returns c =
