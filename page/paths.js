@@ -245,7 +245,7 @@ class AnswerView {
         this.shown = !answer || node ? [] : LINES.matching({q: params.q},
             row => row >= answer.first && row < answer.end);
         this.sheet.show(this.shown.length);
-        this.title.replaceChildren(...this.titleNodes(params));
+        this.title.replaceChildren(...this.titleNodes(params, rows.length));
         this.summary.textContent = this.summaryText(params, rows.length);
         this.links.replaceChildren(...this.linkNodes(params));
     }
@@ -254,10 +254,10 @@ class AnswerView {
         return this.answer ? this.answer.isOfRequest : this.address.who === undefined;
     }
 
-    titleNodes({who, node}) {
+    titleNodes({who, node}, length) {
         const about = who ? principalNodes(who) : [make('bdi', {}, nodesOf(this.answer?.file
             || 'no such file'))];
-        return !node ? about : this.isOfRequest
+        return !length ? about : this.isOfRequest
             ? [...nodeNodes(node), muted(' comes to '), ...about]
             : [...about, muted(' comes to '), ...nodeNodes(node)];
     }
