@@ -159,7 +159,7 @@ class PathsView {
             + 'by step. Whoever comes to everything in the whole cluster is listed first. Whoever '
             + 'isn’t listed comes to nobody and nothing, or wasn’t asked about.'), emptyNodes(),
         this.sheet.element);
-        this.detail = new AnswerView(['Comes to', 'Last step', 'From']);
+        this.detail = new AnswerView('paths', ['Comes to', 'Last step', 'From']);
         this.element = make('div', {class: 'view'});
     }
 
@@ -200,7 +200,7 @@ class RequestsView {
             change: event => change({file: event.target.value, node: ''})},
         REQUESTS.map(({file}, at) => make('option', {value: at ? String(at + 1) : ''},
             lineOf(file))));
-        this.detail = new AnswerView(['Who or what', 'First step', 'Takes over'],
+        this.detail = new AnswerView('requests', ['Who or what', 'First step', 'Takes over'],
             REQUESTS.length > 1 ? [choice] : []);
         this.element = make('div', {class: 'view'}, IS_ABOUT_WHO ? [] : emptyNodes(),
             this.detail.element);
@@ -214,7 +214,9 @@ class RequestsView {
 // ---- an answer, and a path of it
 
 class AnswerView {
-    constructor(heads, tools = []) {
+    constructor(view, heads, tools = []) {
+        this.view = view;
+        this.isOfRequest = view === 'requests';
         this.shown = [];
         this.sheet = new Sheet('Lines', [head('Steps', 'On a shortest path', 'number'),
             ...[...heads, 'Binding', 'Role'].map(title => head(title))],
@@ -250,13 +252,9 @@ class AnswerView {
         this.links.replaceChildren(...this.linkNodes(params));
     }
 
-    get isOfRequest() {
-        return this.answer ? this.answer.isOfRequest : this.address.who === undefined;
-    }
-
     titleNodes({who, node}, length) {
-        const about = who ? principalNodes(who) : [make('bdi', {}, nodesOf(this.answer?.file
-            || 'no such file'))];
+        const about = this.isOfRequest ? [make('bdi', {}, nodesOf(this.answer?.file
+            || 'no such file'))] : principalNodes(who);
         return !length ? about : this.isOfRequest
             ? [...nodeNodes(node), muted(' comes to '), ...about]
             : [...about, muted(' comes to '), ...nodeNodes(node)];
@@ -265,9 +263,9 @@ class AnswerView {
     summaryText({who, node}, length) {
         const {answer, isOfRequest} = this;
         if (!answer) {
-            return who ? 'This page has no path of them: they come to nobody and nothing, or weren’t '
-                + 'asked about.' + (isKey(who) ? '' : ' A principal is written u:NAME or g:NAME.')
-                : 'This page has no such file.';
+            return isOfRequest ? 'This page has no such file.' : 'This page has no path of them: they '
+                + 'come to nobody and nothing, or weren’t asked about.'
+                + (isKey(who) ? '' : ' A principal is written u:NAME or g:NAME.');
         }
         if (node) {
             const steps = length - (isOfRequest ? 1 : 0);
@@ -282,10 +280,6 @@ class AnswerView {
         const isListed = PRINCIPALS.some(({word}) => word === who);
         return [node ? anchor(this.view, this.address, 'All paths') : '', node && isListed ? ' · ' : '',
             isListed ? anchor('who', {who}, 'What they have') : ''];
-    }
-
-    get view() {
-        return this.isOfRequest ? 'requests' : 'paths';
     }
 
     // A line: a node, the step to or from it, and the node at its other end.
