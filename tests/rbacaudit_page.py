@@ -85,6 +85,8 @@ def written_paths():
          [[None, 'u:kim', 0, 3], ['who reads', None, 3, 8], [None, 'g:devs', 8, 11],
           [None, 'g:ops', 11, 13]])
     same('paths: the files without lines', data['empty'], ['none'])
+    same('paths: answers of one step each', paths_data(('a', [DEVS[0], OPS[0]]))['answers'],
+         [[None, 'g:devs', 0, 1], [None, 'g:ops', 1, 2]])
     data = paths_data(('none', []), ('no one', []))
     same('paths: no lines at all', (data['answers'], data['empty'], data['lines']['count']),
          ([], ['none', 'no one'], 0))
@@ -302,6 +304,10 @@ def broken_answers():
         same('--paths: refused: two answers about one', made(SMALL, '--paths', one, '--paths', two),
              (2, '', 'rbacaudit-page: %s line 4: the paths of this principal are there already, from %s '
               'line 1 on\n' % (two, one)))
+    with file_of([*KIM, *KIM]) as path:
+        same('--paths: refused: the same answer again', made(SMALL, '--paths', path),
+             (2, '', 'rbacaudit-page: %s line 4: the paths of this principal are there already, from %s '
+              'line 1 on\n' % (path, path)))
     same('--paths: refused: standard input', made(SMALL, '--paths', '-'),
          (2, '', 'rbacaudit-page: --paths -: standard input has the rows: write the lines into a '
           'file\n'))

@@ -290,6 +290,10 @@ def example_paths(it, room):
     same('example: and in how many steps', page.it.do(
         'Object.fromEntries(PATHS.filter(it => it.reach.everything !== undefined).map(it => '
         '[it.who, it.reach.everything]))'), RICH)
+    page.go('#paths')
+    same('example: those are listed first, fewest steps first', page.it.do(
+        '[...document.querySelectorAll(".reach tbody th a")].slice(0, 13).map(it => new URLSearchParams('
+        'it.hash.split("?")[1]).get("who"))'), sorted(sorted(RICH), key=RICH.get))
     same('example: each path', page.it.do(
         'PATHS.map(it => [it.who, [...it.lines.keys()].map(node => it.path(node).map(row => '
         'LINES.line(row)))])'), [[who, [*followed(lines)]] for who, lines in answers.items()])
