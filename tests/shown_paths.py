@@ -314,10 +314,10 @@ def followed(lines):
 
 
 def chain(length):
-    """A path of many steps, from kim to everything."""
+    """A path of many steps, from kim to everything, each two of one binding."""
     nodes = ['u:kim', *('u:system:serviceaccount:dev:a%05d' % at for at in range(1, length))]
     why = 'RoleBinding/dev/b%d Role/dev/r Role/dev/r 1 1'
-    lines = ['%d %s - %s - token %s' % (at, nodes[at], nodes[at - 1], why % at) for at in range(1, length)]
+    lines = ['%d %s - %s - token %s' % (at, nodes[at], nodes[at - 1], why % (at // 2)) for at in range(1, length)]
     return rows_of('\n'.join([*lines, '%d * * %s - escalate ClusterRoleBinding/b ClusterRole/r ClusterRole/r 1 '
                               '1' % (length, nodes[-1])]))
 
@@ -337,7 +337,7 @@ def long_path(it, room):
     same('long: in the watch list', page.cells('#watch-comes'), [
         ['user kim', '5,000', 'token → account dev:a00001, token → account dev:a00002, token → account '
          'dev:a00003, token → account dev:a00004 and 4,996 more; why',
-         'RoleBinding/dev/b1, RoleBinding/dev/b2, RoleBinding/dev/b3 and 4,997 more']])
+         'RoleBinding/dev/b0, RoleBinding/dev/b1, RoleBinding/dev/b2 and 2,498 more']])
     page.is_quiet()
 
 
