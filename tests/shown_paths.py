@@ -65,6 +65,7 @@ def seen_answer(page):
         ['2', 'user lee', 'impersonate', CI, 'ClusterRoleBinding/ci', 'ClusterRole/ci']])
     same('paths: how far', page.text('main p.muted'), 'They come to everything in the whole cluster, '
          '1 user, 1 service account, in at most 2 steps.')
+    same('paths: somebody without rows has no other link', page.texts('main .tools a'), [])
     same('paths: the title of the page', page.it.do('document.title'), 'kim · Paths · Who can do what')
     page.type_into('main .tools input', 'lee')
     same('paths: lines filtered', [row[1] for row in page.cells()], ['user lee'])
@@ -159,6 +160,22 @@ def shown_paths(it, room):
     for part in (seen_list, seen_answer, seen_path, seen_watch, seen_elsewhere):
         part(page)
     headed(page, 'paths', 'paths?who=u:kim', 'paths?who=u:kim&node=*%09*')
+    page.is_quiet()
+
+
+def shown_role(it, room):
+    """In the watch list a path over a role has no binding for that step."""
+    role, why = 'ClusterRole/hooks', 'ClusterRole/max ClusterRole/max 1 1'
+    lines = ['1 %s * u:max - bind ClusterRoleBinding/max %s' % (role, why),
+             '2 * * %s * webhooks - %s %s 1 -' % (role, role, role)]
+    page = with_paths(it, room, 'role', ('max', rows_of('\n'.join(lines))))
+    page.go('#watch')
+    same('role: in the watch list', page.cells('#watch-comes'), [
+        ['user max', '2', 'bind → ClusterRole/hooks in the whole cluster, webhooks → everything in the '
+         'whole cluster; why', 'ClusterRoleBinding/max']])
+    page.go('#paths')
+    same('role: counted', page.cells(), [['user max', 'whole cluster in 2 steps', '–', '–', '–', '1', '2',
+                                          '2']])
     page.is_quiet()
 
 
@@ -389,5 +406,5 @@ def zoomed_paths(it, room):
     it.ask('Emulation.clearDeviceMetricsOverride')
 
 
-PATHS = (shown_paths, shown_requests, empty_paths, hostile_paths, example_paths, long_path, many_paths,
-         zoomed_paths)
+PATHS = (shown_paths, shown_role, shown_requests, empty_paths, hostile_paths, example_paths, long_path,
+         many_paths, zoomed_paths)
