@@ -147,15 +147,16 @@ def worked_paths():
 
 
 def path_strangers():
-    """Answers of paths in which each name stands in each field that may have it."""
+    """Answers of paths in which each name stands in each field that may have it; the longest, in one
+    line."""
     for name in NAMES:
         role, binding = 'Role/%s/%s' % (name, name), 'RoleBinding/%s/%s' % (name, name)
-        for line in (['1', '*', name, 'g:' + name, '-', 'bind', binding, role, role, '1', '1'],
-                     ['1', role, name, 'g:' + name, '-', 'bind', 'ClusterRoleBinding/' + name,
-                      'ClusterRole/' + name, 'ClusterRole/' + name, '1', '1'],
-                     ['2', 'u:' + name, '-', role, name, 'run', '-', role, role, '1', '-'],
-                     ['3', '*', '*', 'u:' + name, '-', 'bind', binding, role, role, '1', '1']):
-            yield '\t'.join(line)
+        lines = (['1', '*', name, 'g:' + name, '-', 'bind', binding, role, role, '1', '1'],
+                 ['1', role, name, 'g:' + name, '-', 'bind', 'ClusterRoleBinding/' + name,
+                  'ClusterRole/' + name, 'ClusterRole/' + name, '1', '1'],
+                 ['2', 'u:' + name, '-', role, name, 'run', '-', role, role, '1', '-'],
+                 ['3', '*', '*', 'u:' + name, '-', 'bind', binding, role, role, '1', '1'])
+        yield from ('\t'.join(line) for line in lines[:4 if len(name) < 1000 else 1])
 
 
 def named_strangers():
