@@ -10,7 +10,7 @@ const PAGE = JSON.parse(document.getElementById('data').textContent);
 const FIELDS = ['who', 'namespace', 'verb', 'group', 'resource', 'name', 'binding'];
 const HEADS = {change: 'Change', who: 'Who', namespace: 'Namespace', verb: 'Verb',
     group: 'API group',
-    resource: 'Resource or URL', name: 'Name', binding: 'Binding'};
+    resource: 'Resource or URL', name: 'Name', binding: 'Binding', from: 'Who, in paths'};
 // What an empty field means.
 const EMPTY = {namespace: 'whole cluster', group: 'core'};
 const CHANGES = {'+': 'gained', '-': 'lost'};
@@ -190,7 +190,7 @@ function muted(...children) {
 
 // What stands for a field's word on the page.
 function fieldNodes(word, field) {
-    if (field === 'who') {
+    if (field === 'who' || field === 'from') {
         return principalNodes(word);
     }
     if (field === 'change') {

@@ -11,6 +11,12 @@ const VIEWS = {
         + 'what holds everywhere: rows of the whole cluster whose type has namespaces. The binding '
         + 'is the first that grants, unless the matrix was made with --every.')],
 };
+if (IS_ABOUT_WHO) {
+    VIEWS.paths = ['Paths', () => new PathsView()];
+}
+if (REQUESTS.length) {
+    VIEWS.requests = ['Who can indirectly', () => new RequestsView()];
+}
 if (PAGE.findings) {
     VIEWS.findings = ['Findings', () => new FindingsView()];
 }
@@ -19,8 +25,9 @@ if (DIFF) {
         'Gained is what is allowed now and wasn’t before; lost is what was allowed before and '
         + 'isn’t now. The binding is the first one that grants it, or granted it.')];
 }
-const COUNTS = {who: PRINCIPALS.length, rows: ROWS.length, findings: PAGE.findings?.length,
-    changes: DIFF?.length};
+const linesIn = answers => answers.reduce((count, {length}) => count + length, 0);
+const COUNTS = {who: PRINCIPALS.length, rows: ROWS.length, paths: linesIn(PATHS),
+    requests: linesIn(REQUESTS), findings: PAGE.findings?.length, changes: DIFF?.length};
 const TITLE = document.title;
 const built = {};
 let current = '';
@@ -77,7 +84,7 @@ function render() {
 
 function placeOfTitle(ns) {
     const [view, {who}] = address();
-    return [view === 'who' && who ? lineOf(textOf(who).replace(/^[ug]:/, '')) : '',
+    return [(view === 'who' || view === 'paths') && who ? lineOf(textOf(who).replace(/^[ug]:/, '')) : '',
         ns ? placeText(ns) : ''].filter(part => part).join(' in ');
 }
 

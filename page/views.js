@@ -209,14 +209,15 @@ class PrincipalView {
                 + (it ? '; the watch list has what they may do only by name.' : '.')
                 + (isKey(params.who) ? '' : ' A principal is written u:NAME or g:NAME.');
             this.hidden.hidden = true;
-            this.links.replaceChildren();
+            this.links.replaceChildren(...comesTo(params.who));
             this.shown = [];
             this.sheet.show(0);
             return;
         }
         this.summary.textContent = this.counts(it);
         this.links.replaceChildren(anchor('rows', {who: '=' + it.word,
-            namespace: this.scope.isAll ? '' : '=' + this.scope.word}, 'All rows'));
+            namespace: this.scope.isAll ? '' : '=' + this.scope.word}, 'All rows'),
+            ...comesTo(it.word));
         it.lines ||= linesOf(it.rows, row => this.scope.placeOf(row));
         this.show(it.lines, params);
     }
@@ -507,6 +508,7 @@ class FindView {
         };
         const found = q === '' ? [] : [search('who', 'who', word => ({who: word}),
             PRINCIPALS.map(({word}) => word)),
+            search('from', 'paths', word => ({who: word}), PATHS.map(({who}) => who)),
             search('namespace', 'what', word => ({ns: word})),
             search('resource', 'rows', word => ({resource: '=' + word})),
             search('name', 'rows', word => ({name: '=' + word})),

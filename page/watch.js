@@ -13,8 +13,10 @@ class WatchView {
         const held = WATCHED.map((_, at) => holdersOf(scope, at));
         const named = WATCHED.map((_, at) => namedHolders(scope, at));
         this.list.replaceChildren(make('ul', {class: 'tiles'},
-            WATCHED.map((watched, at) => this.tile(watched, held[at], named[at]))),
-        ...WATCHED.map((watched, at) => this.section(watched, held[at], named[at])));
+            WATCHED.map((watched, at) => this.tile(watched, held[at], named[at])),
+            IS_ABOUT_WHO ? comingTile(() => this.jump(COMING.id)) : []),
+        ...WATCHED.map((watched, at) => this.section(watched, held[at], named[at])),
+        IS_ABOUT_WHO ? comingSection() : '');
     }
 
     // What counts, and whether those do who may do something only to objects of certain names. Rows

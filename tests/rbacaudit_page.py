@@ -7,6 +7,7 @@ a renderer, stands in the last line but one. The last line is `N passed, M faile
 
 import base64
 import hashlib
+import itertools
 import json
 import os
 import pty
@@ -16,13 +17,19 @@ import signal
 import subprocess
 import sys
 import tempfile
+import time
 
 from common import TOP, checked, skipped, tested
 from plugin_page import (plugin_files, plugin_names, plugin_notices, plugin_pages, plugin_places, plugin_refusals,
                          plugin_stale, plugin_types)
 from shown import in_browser
-from written import (CHANGES, FILTER, FINDINGS, NAMED, SMALL, Parts, contents, file_of, lines_in,
-                     made, named_strangers, rows_of, same, steps, strangers)
+from written import (CHANGES, DEVS, FILTER, FINDINGS, KIM, NAMED, OPS, READERS, SMALL, Parts, contents,
+                     file_of, lines_in, made, named_strangers, path_strangers, rows_of, same, steps,
+                     strangers, worked_paths)
+
+
+# (a file's name, so without a slash)
+STRANGE_FILE = '<img src=x onerror=alert(7)>\u202e'
 
 
 def written():
@@ -56,16 +63,67 @@ def written():
              NAMED)
 
 
+def paths_data(*files):
+    """What a page has of files of paths, which stand in one folder under these names."""
+    with tempfile.TemporaryDirectory() as room:
+        words = []
+        for name, lines in files:
+            words += ['--paths', os.path.join(room, name)]
+            with open(words[-1], 'w', encoding='utf-8') as file:
+                file.write(''.join(line + '\n' for line in lines))
+        status, text, err = made(SMALL, *words)
+        same('paths in %.80r: status' % [name for name, _ in files], (status, err), (0, ''))
+        return Parts(text).data()['paths']
+
+
+def written_paths():
+    """Pages hold exactly the lines of paths and of who-can --indirect, and which are one answer."""
+    same('no --paths', Parts(made(SMALL)[1]).data()['paths'], None)
+    data = paths_data(('a', KIM), ('who reads', READERS), ('b', [*DEVS, *OPS]), ('none', []))
+    same('paths: the lines', lines_in(data['lines']), [*KIM, *READERS, *DEVS, *OPS])
+    same('paths: the answers', data['answers'],
+         [[None, 'u:kim', 0, 3], ['who reads', None, 3, 8], [None, 'g:devs', 8, 11],
+          [None, 'g:ops', 11, 13]])
+    same('paths: the files without lines', data['empty'], ['none'])
+    same('paths: answers of one step each', paths_data(('a', [DEVS[0], OPS[0]]))['answers'],
+         [[None, 'g:devs', 0, 1], [None, 'g:ops', 1, 2]])
+    data = paths_data(('none', []), ('no one', []))
+    same('paths: no lines at all', (data['answers'], data['empty'], data['lines']['count']),
+         ([], ['none', 'no one'], 0))
+    pages = []
+    for words, lines in worked_paths():
+        who = None if 'who-can' in words else words.split()[-1].replace('\\', '\\\\')
+        name = who or words.replace('/', ' ')
+        # (a page has the paths of a principal once)
+        page = next((page for page in pages if name not in page), None)
+        if page is None:
+            pages.append(page := {})
+        page[name] = lines, who
+    for page in pages:
+        data = paths_data(*((name, lines) for name, (lines, _) in page.items()))
+        ends = [*itertools.accumulate(len(lines) for lines, _ in page.values())]
+        same('paths: worked answers: which they are', data['answers'],
+             [[None if who else name, who, end - len(lines), end]
+              for (name, (lines, who)), end in zip(page.items(), ends) if lines])
+        same('paths: worked answers: their lines', lines_in(data['lines']),
+             [line for lines, _ in page.values() for line in lines])
+
+
 def no_markup():
     """No name becomes markup: a page has the elements and attributes of one without names, and is
     ASCII beside the template."""
-    with file_of(named_strangers()) as named:
-        plain, hostile = made(SMALL)[1], made(strangers(), '--named', named, '--title',
+    with file_of(named_strangers()) as named, file_of(
+            path_strangers()) as paths, file_of(READERS, STRANGE_FILE) as readers:
+        plain, hostile = made(SMALL)[1], made(strangers(), '--named', named, '--paths', paths, '--paths',
+                                              readers, '--title',
                                               '</title><script>alert(5)</script>\u202e')[1]
     same('the elements are the same', Parts(hostile).elements, Parts(plain).elements)
     parts = Parts(hostile)
     same('all names are there', sorted(lines_in(parts.data()['rows'])), sorted(strangers()))
     same('those of holders by name too', lines_in(parts.data()['named']), [*named_strangers()])
+    same('those of paths too', lines_in(parts.data()['paths']['lines']),
+         [*path_strangers(), *READERS])
+    same('and the name of a file', parts.data()['paths']['answers'][-1][0], STRANGE_FILE)
     data = parts.texts['script', 'application/json']
     checked('the data are ASCII without markup', data.isascii() and not re.search('[<>&]', data),
             data[:1000])
@@ -159,6 +217,120 @@ def named_refusals():
         with file_of([NAMED[0], line.replace(' ', '\t')]) as path:
             same('refused: %s' % name, made(SMALL, '--named', path),
                  (2, '', 'rbacaudit-page: %s line 2: %s\n' % (path, said)))
+
+
+def paths_refused(name, lines, said, line=1):
+    with file_of(lines) as path:
+        same('--paths: refused: %s' % name, made(SMALL, '--paths', path),
+             (2, '', 'rbacaudit-page: %s line %d: %s\n' % (path, line, said)))
+
+
+def changed(line, *fields):
+    """A line with other fields: each by its place, from 1 on."""
+    texts = line.split('\t')
+    for place, text in fields:
+        texts[place - 1] = text
+    return '\t'.join(texts)
+
+
+def path_refusals():
+    """What isn't the lines of an answer, as printed: other lines, and answers that lack some."""
+    to_account, to_all, _ = KIM
+    of_everything, from_role, of_role = DEVS[1], OPS[1], OPS[0]
+    for name, line in (
+            ('a row', SMALL[0]), ('a change', CHANGES[0]), ('an empty line', ''),
+            ('ten fields', to_account.rpartition('\t')[0]), ('twelve fields', to_account + '\t1'),
+            ('a line of Windows', to_account + '\r'),
+            ('an empty field', changed(to_account, (7, ''))),
+            ('a bad escape', changed(to_account, (2, 'u:\\q'))),
+            ('a control byte', changed(to_account, (2, 'u:\x1b'))),
+            ('a number with a zero', changed(to_account, (1, '01'))),
+            ('no number', changed(to_account, (1, '-'))),
+            ('digits that are not ASCII', changed(to_account, (1, '١'))),
+            ('an unknown step', changed(to_account, (6, 'fly'))),
+            ('no step', changed(to_account, (6, '-'))),
+            ('no principal', changed(to_account, (2, 'x:kim'))),
+            ('a principal in a namespace', changed(to_account, (3, 'dev'))),
+            ('a principal before in a namespace', changed(to_account, (5, 'dev'))),
+            ('a role nowhere', changed(of_role, (3, '-'))),
+            ('a role without a namespace', changed(of_role, (2, 'Role/runner'))),
+            ('a namespace without a role', changed(of_role, (2, 'Role/prod/'))),
+            ('everything nowhere', changed(DEVS[0], (3, '-'))),
+            ('a principal without a binding', changed(to_account, (7, '-'))),
+            ('a binding without its namespace', changed(to_account, (7, 'RoleBinding/debug'))),
+            ('no role', changed(to_account, (8, '-'))),
+            ('no rule', changed(to_account, (10, '-'))),
+            ('rule zero', changed(to_account, (10, '0'))),
+            ('a principal without a subject', changed(to_account, (11, '-')))):
+        paths_refused(name, [line], 'no line of rbacaudit paths or who-can --indirect')
+    unlike = 'no line of rbacaudit paths'
+    for name, lines in (('everything with a role', [DEVS[0], changed(of_everything, (8, 'Role/a/b'))]),
+                        ('a role with a binding', [of_role, changed(from_role, (7, to_all.split('\t')[6]))]),
+                        ('a role with a subject', [of_role, changed(from_role, (11, '1'))]),
+                        ('no steps', [to_account, READERS[1]])):
+        paths_refused(name, lines, unlike, 2)
+    for name, line in (('of who-can: everything with a role', changed(READERS[0], (2, '*'))),
+                       ('of who-can: somebody without a binding', changed(READERS[1], (7, '-'))),
+                       ('of who-can: a node after it', changed(READERS[1], (4, 'u:lee'))),
+                       ('of who-can: a step', changed(READERS[1], (6, 'run')))):
+        paths_refused(name, [line], 'no line of rbacaudit paths or who-can --indirect')
+    paths_refused('of who-can: no node after it', [*READERS[:2], changed(READERS[2], (4, '-'), (5, '-'))],
+                  'no line of rbacaudit who-can --indirect', 3)
+
+
+def broken_answers():
+    """An answer has each line to which another leads, each once, and in order; a principal has one
+    answer."""
+    lost = 'no line above is one step nearer: give all lines that were printed, in their order'
+    twice = 'the same as a line above'
+    for name, lines, said, line in (
+            ('the first line is gone', KIM[1:], lost, 1),
+            ('a line between is gone', [KIM[0], changed(KIM[1], (1, '3'))], lost, 2),
+            ('another is before', [KIM[0], changed(KIM[1], (4, 'u:max'))], lost, 2),
+            ('it is one of as many steps', [*KIM, changed(KIM[2], (2, 'u:max'), (4, 'u:lee'))], lost, 4),
+            ('fewer steps after more', [*READERS, changed(READERS[3], (2, 'u:max'))], lost, 6),
+            ('a line twice', [KIM[0], KIM[0]], twice, 2),
+            ('a node in two lines', [*KIM, changed(KIM[2], (6, 'token'))], twice, 4),
+            ('the one asked about', [KIM[0], changed(KIM[2], (2, 'u:kim'))], twice, 2),
+            ('of who-can: the first line is gone', [READERS[1], *READERS[2:]], lost, 2),
+            ('of who-can: a line twice', [READERS[0], READERS[0]], twice, 2),
+            ('two answers of who-can', [*READERS, *READERS], lost, 6),
+            ('paths after who-can', [*READERS, *KIM], lost, 6),
+            ('who-can after paths', [*KIM, *READERS], 'no line of rbacaudit paths', 4),
+            ('a role is asked about', [changed(OPS[1], (1, '1'))], 'no principal comes before this line',
+             1)):
+        paths_refused(name, lines, said, line)
+    with file_of(DEVS, 'one') as one, file_of([*KIM, *DEVS], 'two') as two:
+        same('--paths: refused: two answers about one', made(SMALL, '--paths', one, '--paths', two),
+             (2, '', 'rbacaudit-page: %s line 4: the paths of this principal are there already, from %s '
+              'line 1 on\n' % (two, one)))
+    with file_of([*KIM, *KIM]) as path:
+        same('--paths: refused: the same answer again', made(SMALL, '--paths', path),
+             (2, '', 'rbacaudit-page: %s line 4: the paths of this principal are there already, from %s '
+              'line 1 on\n' % (path, path)))
+    same('--paths: refused: standard input', made(SMALL, '--paths', '-'),
+         (2, '', 'rbacaudit-page: --paths -: standard input has the rows: write the lines into a '
+          'file\n'))
+    with tempfile.NamedTemporaryFile() as file:
+        file.write(KIM[0].encode() + b'\n\xff\n')
+        file.flush()
+        same('--paths: refused: not UTF-8', made(SMALL, '--paths', file.name),
+             (2, '', 'rbacaudit-page: %s line 2: not UTF-8\n' % file.name))
+
+
+def path_limit():
+    """500,000 lines of paths, and one more; and a long name that is no field keeps nobody waiting."""
+    lines = ['1\tu:%d\t-\tu:kim\t-\timpersonate\tClusterRoleBinding/b\tClusterRole/r\tClusterRole/r\t1'
+             '\t1' % at for at in range(500000)]
+    with file_of(lines, 'most') as most, file_of(DEVS, 'more') as more:
+        same('500,000 lines of paths', made([], '--paths', most)[::2], (0, ''))
+        same('one more is refused', made([], '--paths', most, '--paths', more),
+             (2, '', 'rbacaudit-page: %s line 1: --paths has more than 500000 lines, too many for a page: '
+              'give the paths of fewer principals, or some steps of them, by paths --steps\n' % more))
+    long = changed(KIM[0], (7, 'RoleBinding/' + 'a/' * 500000 + '\x7f'))
+    began = time.monotonic()
+    paths_refused('a long name', [long], 'no line of rbacaudit paths or who-can --indirect')
+    checked('--paths: a long name is refused in time', time.monotonic() - began < 10)
 
 
 def watch_list():
@@ -290,7 +462,7 @@ def helped():
     told_ = told(sys.executable, FILTER, '--help', env=dict(os.environ, COLUMNS='100'))
     options = dict(re.findall(r'^  (?:-h, )?--(\w+)(?: [A-Z]+)?  +(.*)$', told_, re.M))
     same('help: the options', [*options],
-         ['help', 'lint', 'diff', 'named', 'namespaced', 'notices', 'about', 'title',
+         ['help', 'lint', 'diff', 'paths', 'named', 'namespaced', 'notices', 'about', 'title',
           'output', 'watched'])
     man = contents('man', 'rbacaudit-page.1')
     same('man: the options', re.findall(r'^\.TP\n.*\\-\\-(\w+)\\fR', man, re.M), [*options])
@@ -301,10 +473,10 @@ def helped():
     zsh = contents('completions', '_rbacaudit-page')
     same('zsh: the options', dict(re.findall(r"--(\w+)=?\}?'?\[(.*?)\]", zsh)), options)
     path = os.path.join(TOP, 'completions', 'rbacaudit-page.bash')
-    for line, wanted in (('rbacaudit-page --', '--lint --diff --named --namespaced --notices '
+    for line, wanted in (('rbacaudit-page --', '--lint --diff --paths --named --namespaced --notices '
                                     '--about --title --output --watched --help'),
                          ('rbacaudit-page --lint x --t', '--title'),
-                         ('rbacaudit-page --named -', ''),
+                         ('rbacaudit-page --named -', ''), ('rbacaudit-page --paths -', ''),
                          ('rbacaudit-page --title -', '')):
         script = ('compopt() { :; }; . "$0"; COMP_WORDS=(%s); COMP_CWORD=%d; _rbacaudit_page; '
                   'echo ${COMPREPLY[*]}' % (line, line.count(' ')))
@@ -371,7 +543,8 @@ def colours():
 
 
 if __name__ == '__main__':
-    sys.exit(tested(written, no_markup, policy, refusals, watch_list, limits, output, drawn,
+    sys.exit(tested(written, written_paths, no_markup, policy, refusals, path_refusals, broken_answers,
+                    path_limit, watch_list, limits, output, drawn,
                     terminals, helped, installed, plugin_pages, plugin_names, plugin_types, plugin_notices,
                     plugin_places,
                     plugin_files, plugin_refusals, plugin_stale, colours, in_browser))

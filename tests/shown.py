@@ -11,6 +11,7 @@ import browser
 from common import PROGRAM, TOP, checked, skipped
 from opened import COUNTS, LABELS, Shown
 from shown_names import common_verbs, many_namespaces, names, notices, spreadsheet, zoomed
+from shown_paths import PATHS
 from shown_scopes import joined, wide
 from written import (CHANGES, FINDINGS, NAMED, NAMES, SMALL, file_of, made, named_strangers,
                      rows_of, same, steps, strangers)
@@ -533,7 +534,7 @@ def in_browser():
             it.ask('Browser.setDownloadBehavior', behavior='allow', downloadPath=room)
             for part in (small_page, watched, by_name, watch_heads, stars, joined, notices, names,
                          common_verbs, spreadsheet, many_namespaces, zoomed, empty, widths,
-                         hostile_page, cluster_page, themes, large, wide):
+                         hostile_page, cluster_page, themes, large, wide, *PATHS):
                 try:
                     part(it, room)
                 except faults as fault:

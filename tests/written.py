@@ -51,6 +51,30 @@ NAMED = [line.replace(' ', '\t') for line in (
     'create - pods/exec g:devs RoleBinding/dev/one', 'create - pods g:devs ClusterRoleBinding/pods',
     'impersonate - users u:system:serviceaccount:dev:ci ClusterRoleBinding/one-user',
     'create - serviceaccounts/token u:zoe RoleBinding/a/b/c')]
+# Paths of three principals, and READERS: who may read secrets in prod, or comes to somebody who may,
+# by who-can --indirect. Kim comes to everything in two steps, devs to everything in dev, and ops to a
+# role. The lines of everything and of a role show what their grants lack.
+KIM = rows_of("""
+1 u:system:serviceaccount:dev:ci - u:kim - exec RoleBinding/dev/debug Role/dev/debug Role/dev/debug 1 2
+2 * * u:system:serviceaccount:dev:ci - bind ClusterRoleBinding/ci ClusterRole/all ClusterRole/part 3 1
+2 u:lee - u:system:serviceaccount:dev:ci - impersonate ClusterRoleBinding/ci ClusterRole/ci ClusterRole/ci 1 1
+""")
+DEVS = rows_of("""
+1 * dev g:devs - bind RoleBinding/dev/devs ClusterRole/owner ClusterRole/owner 2 1
+2 u:system:serviceaccount:dev:ci - * dev impersonate - - - - -
+2 u:system:serviceaccount:dev:web - * dev impersonate - - - - -
+""")
+OPS = rows_of("""
+1 ClusterRole/runner prod g:ops - bind RoleBinding/prod/ops Role/prod/ops Role/prod/ops 1 1
+2 u:system:serviceaccount:prod:db - ClusterRole/runner prod run - ClusterRole/runner ClusterRole/runner 2 -
+""")
+READERS = rows_of("""
+0 ClusterRole/runner prod - - - - ClusterRole/runner ClusterRole/runner 1 -
+0 u:system:serviceaccount:prod:db - - - - RoleBinding/prod/db Role/prod/db Role/prod/db 1 1
+1 g:ops - ClusterRole/runner prod bind RoleBinding/prod/ops Role/prod/ops Role/prod/ops 1 1
+1 u:lee - u:system:serviceaccount:prod:db - token RoleBinding/prod/lee Role/prod/lee Role/prod/lee 1 1
+2 u:kim - u:lee - impersonate ClusterRoleBinding/kim ClusterRole/kim ClusterRole/kim 1 1
+""")
 # Names of strangers as a field prints them, and what is seen of them.
 NAMES = {
     '</script><script>alert(1)</script>': '</script><script>alert(1)</script>',
@@ -111,6 +135,28 @@ def strangers():
     for name in NAMES:
         yield '\t'.join(['g:' + name, name, name, name, name, name, 'RoleBinding/' + name])
         yield '\t'.join(['u:ann', '-', 'get', '-', '/' + name, '-', 'ClusterRoleBinding/' + name])
+
+
+def worked_paths():
+    """The questions of tests/rows_paths.json that paths and who-can --indirect answer, with their
+    lines."""
+    for row in json.loads(contents('tests', 'rows_paths.json'))['lines']:
+        for words, _, lines in row['asks']:
+            if not words.startswith('powers'):
+                yield words, lines
+
+
+def path_strangers():
+    """Answers of paths in which each name stands in each field that may have it; the longest, in one
+    line."""
+    for name in NAMES:
+        role, binding = 'Role/%s/%s' % (name, name), 'RoleBinding/%s/%s' % (name, name)
+        lines = (['1', '*', name, 'g:' + name, '-', 'bind', binding, role, role, '1', '1'],
+                 ['1', role, name, 'g:' + name, '-', 'bind', 'ClusterRoleBinding/' + name,
+                  'ClusterRole/' + name, 'ClusterRole/' + name, '1', '1'],
+                 ['2', 'u:' + name, '-', role, name, 'run', '-', role, role, '1', '-'],
+                 ['3', '*', '*', 'u:' + name, '-', 'bind', binding, role, role, '1', '1'])
+        yield from ('\t'.join(line) for line in lines[:4 if len(name) < 1000 else 1])
 
 
 def named_strangers():
