@@ -59,12 +59,13 @@ abbrev pub is_plain_resource : Text → Bool
 is_plain_resource text = not (length text == 0) && not (is_path text) && not (has_star text)
 
 -- a resource as it is listed
-abbrev pub listed : Text → Text → Bool → ListedResource
-listed group text namespaced = record { group = group; text = text; namespaced = namespaced }
+abbrev pub as_listed : Text → Text → Bool → ListedResource
+as_listed group text namespaced = record { group = group; text = text; namespaced = namespaced }
 
 -- a group with each of these words that names one resource; all of them namespaced
 abbrev pub group_resources : List Text → Text → List ListedResource
-group_resources words group = map (λ text. listed group text true) (filter is_plain_resource words)
+group_resources words group =
+    map (λ text. as_listed group text true) (filter is_plain_resource words)
 
 -- each group of a rule, unless it contains a `*`, with those of the rule's resource words that name
 -- one resource
@@ -76,7 +77,7 @@ rule_resources r =
 -- rules
 abbrev pub resources_of : Held → CatalogueView → List ListedResource
 resources_of h c =
-    if c.is_given then map (λ e. listed e.group e.name e.namespaced) c.entries
+    if c.is_given then map (λ e. as_listed e.group e.name e.namespaced) c.entries
     else flat_map rule_resources (source_rules h)
 
 -- ---- names and URLs

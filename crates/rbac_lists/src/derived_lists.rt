@@ -4,10 +4,10 @@ ghost use Rattle.std.specs.Prelude.{◌≡◌, ◌++◌, [], All, IfOk, OnOk, ma
 ghost use Rattle.std.specs.List.{flat_map, filter_map};
 ghost use Rattle.rbac_terms.specs.Principals.{given_of};
 ghost use Rattle.rbac_lists.specs.Derived.{principals_of, namespaces_of, verbs_of, resources_of};
-ghost use Rattle.rbac_lists.specs.Derived.{names_of, urls_of, listed};
+ghost use Rattle.rbac_lists.specs.Derived.{names_of, urls_of, as_listed};
 
 use crate::given_lists::Account;
-use crate::naming::{Names, Resources, Urls, Verbs, listed, put_named};
+use crate::naming::{Names, Resources, Urls, Verbs, as_listed, put_named};
 use crate::principals::{put_accounts, put_subjects};
 use crate::texts::{copy_of, is_path_word, is_verb, put_words};
 use rbac_catalogue::{Catalogue, Entry};
@@ -143,10 +143,10 @@ fn put_entries(
 ) -> Result<(), AllocError>
     ensures { OnOk result
         (list.new.items
-        ≡ list.old.items ++ map (λ e. listed e.group e.name e.namespaced) entries.now) }
+        ≡ list.old.items ++ map (λ e. as_listed e.group e.name e.namespaced) entries.now) }
 {
     for entry in entries {
-        list.push(listed(alloc, &entry.group, &entry.name, entry.namespaced)?)?;
+        list.push(as_listed(alloc, &entry.group, &entry.name, entry.namespaced)?)?;
     }
     Ok(())
 }

@@ -4,6 +4,7 @@ ghost use Rattle.std.specs.Prelude.{◌≡◌, ◌++◌, List, OnOk, IfOk, filte
 ghost use Rattle.std.specs.List.{flat_map};
 ghost use Rattle.rbac_terms.specs.declared.matching.Rule.{Rule};
 ghost use Rattle.rbac_lists.specs.Derived.{source_rules, rule_resources, group_resources};
+ghost use Rattle.rbac_lists.specs.Derived.{as_listed};
 
 use crate::texts::{copy_of, has_star, is_plain_resource, put_words};
 use rbac_model::Objects;
@@ -147,21 +148,20 @@ fn put_of_group(
 {
     for word in words {
         if is_plain_resource(word) {
-            list.push(listed(alloc, group, word, true)?)?;
+            list.push(as_listed(alloc, group, word, true)?)?;
         }
     }
     Ok(())
 }
 
 // A resource as it is listed.
-pub(crate) fn listed(
+pub(crate) fn as_listed(
     alloc: Global,
     group: &Word,
     text: &Word,
     namespaced: bool,
 ) -> Result<ListedResource, AllocError>
-    ensures { IfOk result
-        (λ r. r ≡ record { group = group.now; text = text.now; namespaced = namespaced }) }
+    ensures { IfOk result (λ r. r ≡ as_listed group.now text.now namespaced) }
 {
     Ok(ListedResource {
         group: copy_of(alloc, group)?,

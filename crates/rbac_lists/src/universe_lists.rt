@@ -1,6 +1,6 @@
 //! The lists that a universe is made of, each given or derived.
 
-ghost use Rattle.std.specs.Prelude.{◌≡◌, IfOk, unwrap_or};
+ghost use Rattle.std.specs.Prelude.{◌≡◌, IfOk, MatchOption, unwrap_or};
 ghost use Rattle.std.specs.Option.{option_copied, option_or};
 ghost use Rattle.rbac_lists.specs.Derived.{principals_of, namespaces_of, verbs_of, resources_of};
 ghost use Rattle.rbac_lists.specs.Derived.{names_of, urls_of};
@@ -43,39 +43,49 @@ pub fn lists_of(
         lists ≡ lists_meant objects.now catalogue.now namespaces.now accounts.now documents.now) }
 {
     let given = last_lists(documents);
-    let principals = principals_meant(alloc, given.principals, objects, accounts)?;
-    let namespaces = namespaces_meant(alloc, given.namespaces, objects, namespaces, accounts)?;
-    let resources = resources_meant(alloc, given.resources, objects, catalogue)?;
-    let (verbs, names, urls) = words_of(alloc, objects, catalogue, given)?;
-    Ok(UniverseLists {
-        principals,
-        namespaces,
-        verbs,
-        resources,
-        names,
-        urls,
-    })
+    lists_over(alloc, objects, catalogue, namespaces, accounts, given)
 }
 
-// The verbs, the object names and the paths of URLs, each list given or derived.
-fn words_of(
+// Each list given or derived.
+fn lists_over(
     alloc: Global,
     objects: &Objects,
     catalogue: &Catalogue,
+    names: &[Word],
+    accounts: &[Account],
     given: LastLists<'_>,
-) -> Result<(Words, Words, Words), AllocError>
+) -> Result<UniverseLists, AllocError>
+    ensures principals { IfOk result
+        (λ lists. lists.principals
+        ≡ unwrap_or (option_copied given.entry.principals)
+        (principals_of objects.now accounts.now)) }
+    ensures namespaces { IfOk result
+        (λ lists. lists.namespaces
+        ≡ unwrap_or (option_copied given.entry.namespaces)
+        (namespaces_of objects.now names.now accounts.now)) }
     ensures verbs { IfOk result
-        (λ lists. lists.0
+        (λ lists. lists.verbs
         ≡ unwrap_or (option_copied given.entry.verbs) (verbs_of objects.now catalogue.now)) }
+    ensures resources { IfOk result
+        (λ lists. lists.resources
+        ≡ unwrap_or (option_copied given.entry.resources)
+        (resources_of objects.now catalogue.now)) }
     ensures names { IfOk result
-        (λ lists. lists.1 ≡ unwrap_or (option_copied given.entry.names) (names_of objects.now)) }
+        (λ lists. lists.names
+        ≡ unwrap_or (option_copied given.entry.names) (names_of objects.now)) }
     ensures urls { IfOk result
-        (λ lists. lists.2 ≡ unwrap_or (option_copied given.entry.urls) (urls_of objects.now)) }
+        (λ lists. lists.urls ≡ unwrap_or (option_copied given.entry.urls) (urls_of objects.now)) }
 {
-    let verbs = verbs_meant(alloc, given.verbs, objects, catalogue)?;
-    let names = names_meant(alloc, given.names, objects)?;
-    let urls = urls_meant(alloc, given.urls, objects)?;
-    Ok((verbs, names, urls))
+    Ok(UniverseLists {
+        principals: given_or(given.principals, || principals_of(alloc, objects, accounts))?,
+        namespaces: given_or(given.namespaces, || {
+            namespaces_of(alloc, objects, names, accounts)
+        })?,
+        verbs: given_or(given.verbs, || verbs_of(alloc, objects, catalogue))?,
+        resources: given_or(given.resources, || resources_of(alloc, objects, catalogue))?,
+        names: given_or(given.names, || names_of(alloc, objects))?,
+        urls: given_or(given.urls, || urls_of(alloc, objects))?,
+    })
 }
 
 // The last one of each list that these documents give.
@@ -130,89 +140,17 @@ fn over<'a>(document: &'a GivenLists, earlier: LastLists<'a>) -> LastLists<'a>
     }
 }
 
-// The principals that are given, even if there are none, otherwise the derived ones. So for each
-// list.
-fn principals_meant(
-    alloc: Global,
-    given: Option<&Principals>,
-    objects: &Objects,
-    accounts: &[Account],
-) -> Result<Principals, AllocError>
-    ensures { IfOk result
-        (λ list. list
-        ≡ unwrap_or (option_copied given.entry) (principals_of objects.now accounts.now)) }
+// The list that is given, even if it is empty, otherwise the derived one.
+fn given_or<T: Clone, F: FnOnce() -> Result<T, AllocError>>(
+    given: Option<&T>,
+    derive: F,
+) -> Result<T, AllocError>
+    requires { F.IsAlwaysCallable derive }
+    ensures { MatchOption (option_copied given.entry)
+        (F.post derive result) (λ list. IfOk result (T.is_clone list)) }
 {
     match given {
-        Some(principals) => principals.clone(),
-        None => principals_of(alloc, objects, accounts),
-    }
-}
-
-fn namespaces_meant(
-    alloc: Global,
-    given: Option<&Words>,
-    objects: &Objects,
-    names: &[Word],
-    accounts: &[Account],
-) -> Result<Words, AllocError>
-    ensures { IfOk result
-        (λ list. list ≡ unwrap_or (option_copied given.entry)
-        (namespaces_of objects.now names.now accounts.now)) }
-{
-    match given {
-        Some(namespaces) => namespaces.clone(),
-        None => namespaces_of(alloc, objects, names, accounts),
-    }
-}
-
-fn resources_meant(
-    alloc: Global,
-    given: Option<&ListedResources>,
-    objects: &Objects,
-    catalogue: &Catalogue,
-) -> Result<ListedResources, AllocError>
-    ensures { IfOk result
-        (λ list. list
-        ≡ unwrap_or (option_copied given.entry) (resources_of objects.now catalogue.now)) }
-{
-    match given {
-        Some(resources) => resources.clone(),
-        None => resources_of(alloc, objects, catalogue),
-    }
-}
-
-fn verbs_meant(
-    alloc: Global,
-    given: Option<&Words>,
-    objects: &Objects,
-    catalogue: &Catalogue,
-) -> Result<Words, AllocError>
-    ensures { IfOk result
-        (λ list. list
-        ≡ unwrap_or (option_copied given.entry) (verbs_of objects.now catalogue.now)) }
-{
-    match given {
-        Some(verbs) => verbs.clone(),
-        None => verbs_of(alloc, objects, catalogue),
-    }
-}
-
-fn names_meant(alloc: Global, given: Option<&Words>, objects: &Objects) -> Result<Words, AllocError>
-    ensures { IfOk result
-        (λ list. list ≡ unwrap_or (option_copied given.entry) (names_of objects.now)) }
-{
-    match given {
-        Some(names) => names.clone(),
-        None => names_of(alloc, objects),
-    }
-}
-
-fn urls_meant(alloc: Global, given: Option<&Words>, objects: &Objects) -> Result<Words, AllocError>
-    ensures { IfOk result
-        (λ list. list ≡ unwrap_or (option_copied given.entry) (urls_of objects.now)) }
-{
-    match given {
-        Some(urls) => urls.clone(),
-        None => urls_of(alloc, objects),
+        Some(list) => list.clone(),
+        None => derive(),
     }
 }

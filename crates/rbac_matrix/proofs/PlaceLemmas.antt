@@ -6,7 +6,8 @@ use Rattle.std.proofs.lemmas.List.{get_or-set_same, get_or-set_other}
 use Rattle.std.proofs.lemmas.Nat.{shr-shr, shr_le, shr_below}
 use Rattle.std.proofs.lemmas.Nat.Bits.{bit_at_set_same, bit_at_set_other, bit_at_above, bit_at_or, bit_at-lt, bit_at-zero, bit_at-trailing_zeros}
 use Rattle.rbac_matrix.specs.GrantVerbs.{HasBit}
-use Rattle.rbac_matrix.specs.VerbPlaces.{HasPlace, LacksPlace}
+use Rattle.rbac_model.specs.Graphs.{HasPlace}
+use Rattle.rbac_matrix.specs.VerbPlaces.{LacksPlace}
 
 module _ (words : List ℕ) (at word : ℕ) (room : at < length words) (place : ℕ) where
   -- a word was put there: the bits of the other words stay

@@ -15,7 +15,8 @@ use Rattle.rbac_model.specs.Universes.{UniverseView}
 use Rattle.rbac_matrix.specs.Lines.{LineView, line, lines_from, place}
 use Rattle.rbac_matrix.specs.Cursors.{AreRunsAt, AreRunsOf, AreVerbs, IsCursorAt, IsNextBound, ServeBare}
 use Rattle.rbac_matrix.specs.Starting.{IsFoundAt, IsGapAt}
-use Rattle.rbac_matrix.specs.VerbPlaces.{AddsVerbs, HasPlace, IsRoom, LacksPlace}
+use Rattle.rbac_model.specs.Graphs.{HasPlace}
+use Rattle.rbac_matrix.specs.VerbPlaces.{AddsVerbs, IsRoom, LacksPlace}
 use Rattle.rbac_matrix.specs.declared.bound_runs.Runs.{Runs}
 use Rattle.rbac_matrix.specs.declared.line.Place.{Place}
 use Rattle.rbac_matrix.specs.declared.walk.Walk.{Walk}

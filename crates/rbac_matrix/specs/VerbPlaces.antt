@@ -1,18 +1,13 @@
 -- Sets of places of verbs, as words of bits.
-use Rattle.std.specs.Prelude.{◌≡◌, ℕ, ◌*◌, ◌/◌, ◌%◌, ◌<◌, ◌≤◌, List, Some, length, slice_get}
-use Rattle.std.specs.List.{slice_index_or}
+use Rattle.std.specs.Prelude.{◌≡◌, ℕ, ◌*◌, ◌<◌, ◌≤◌, List, Some, length, slice_get}
 use Rattle.rbac_terms.specs.Text.{Text}
 use Rattle.rbac_terms.specs.Matching.{VerbOk}
 use Rattle.rbac_terms.specs.declared.matching.Rule.{Rule}
-use Rattle.rbac_matrix.specs.GrantVerbs.{HasBit}
+use Rattle.rbac_model.specs.Graphs.{HasPlace}
 
 -- the set has room for the place
 abbrev pub IsRoom : List ℕ → ℕ → Type 0
 IsRoom words place = place < 64 * length words
-
--- the place is in the set: its bit is 1
-abbrev pub HasPlace : List ℕ → ℕ → Type 0
-HasPlace words place = HasBit (slice_index_or words (place / 64) 0) (place % 64)
 
 -- the set has room for the place, which isn't in
 abbrev pub LacksPlace : List ℕ → ℕ → Type 0

@@ -4,7 +4,8 @@ ghost use Rattle.std.specs.Prelude.{◌≡◌, ◌*◌, ◌<◌, ◌≤◌, ◌�
 ghost use Rattle.std.specs.Prelude.{codes};
 ghost use Rattle.rbac_model.specs.Lists.{IsAscendingBy};
 ghost use Rattle.rbac_matrix.specs.GrantVerbs.{HasBit};
-ghost use Rattle.rbac_matrix.specs.VerbPlaces.{AddsVerbs, HasPlace, IsRoom, LacksPlace};
+ghost use Rattle.rbac_model.specs.Graphs.{HasPlace};
+ghost use Rattle.rbac_matrix.specs.VerbPlaces.{AddsVerbs, IsRoom, LacksPlace};
 
 use crate::start::word_place;
 use arrayvec::ArrayVec;
