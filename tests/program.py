@@ -17,7 +17,6 @@ import tempfile
 
 from common import PODS, PROGRAM, TOP, V1, V1BETA1, bare, checked, export, tested
 from meaning import document_text
-from paths import BUILT
 from transcripts import (example_cluster, links_and_heads, loop_of_pages, spaced_bindings,
                          transcripts)
 
@@ -318,11 +317,11 @@ def little_memory():
 
 
 def rows():
-    """The worked rows of rows.json, each under the rule that it shows; and those of rows_paths.json, as far as the program has the command."""
+    """The worked rows of rows.json and of rows_paths.json, each under the rule that it shows."""
     with open(os.path.join(TOP, 'tests', 'rows.json'), encoding='utf-8') as file:
         table = json.load(file)
     with open(os.path.join(TOP, 'tests', 'rows_paths.json'), encoding='utf-8') as file:
-        table['lines'] += ({**row, 'asks': [ask for ask in row['asks'] if ask[0].split(' ')[0] in BUILT]} for row in json.load(file)['lines'])
+        table['lines'] += json.load(file)['lines']
     answers(table['answers'])
     lines(table['lines'])
     changes(table['changes'])
