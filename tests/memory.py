@@ -532,6 +532,8 @@ def faults(room):
     yield Case('U7', ['diff', '--before', missing, '--after', missing, '--with', missing], b'', 2, err='U7 give either --after, or --with or --without')
     yield Case('U8', ['paths', '--steps', 'run,', 'u:kim', missing], b'', 2,
                err='U8 steps are impersonate, token, run, exec, secrets, nodes, bind, escalate, certificates, webhooks')
+    yield Case('U9', ['who-can', '--indirect', '--why', 'get', 'pods', missing], b'', 2,
+               err='U9 --indirect excludes --anywhere, --any-name, --every and --why; --steps needs --indirect')
     yield Case('a word that is not UTF-8', ['can-i', '--as', b'al\xffce', 'get', 'pods'], b'', 2, err='argument 3: not UTF-8')
     yield Case('I1', [*alice, missing], b'', 2, err='file 1: I1 read fault')
     yield Case('I2', [*alice, '/dev/zero'], b'', 2, err='file 1: I2 too long', step=7)

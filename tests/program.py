@@ -44,6 +44,11 @@ BAD_CHANGES = ([], ['--before', 'b'], ['--after', 'b', '--with', 'c'], ['--witho
 # The steps of the table, in its order.
 STEPS = ('impersonate', 'token', 'run', 'exec', 'secrets', 'nodes', 'bind', 'escalate', 'certificates', 'webhooks')
 BAD_STEP = b'rbacaudit: U8 steps are impersonate, token, run, exec, secrets, nodes, bind, escalate, certificates, webhooks\n'
+BAD_INDIRECT = b'rbacaudit: U9 --indirect excludes --anywhere, --any-name, --every and --why; --steps needs --indirect\n'
+# Options of `who-can` that don't go together.
+NO_WAYS = [*(['--indirect', *options] for count in range(1, 5) for options in itertools.combinations(['--anywhere', '--any-name', '--every', '--why'], count)),
+           ['--why', '--indirect'], ['-A', '--anywhere', '--indirect'], ['--indirect', '--steps', 'run', '--every'], ['--steps', 'run'],
+           ['--steps', 'run', '--why'], ['--steps=' + ','.join(STEPS), '-A']]
 
 
 def run(words, given=b'', **how):
@@ -529,6 +534,12 @@ def ways_streams():
         expect('who comes to pods by two files', [*asked, *files], 0, line)
         expect('a universe hides nobody, and an API resource list changes no step', [*asked, *files, *others], 0, line)
         expect('who comes to it by a file and a missing one', [*asked, files[0], room], 2, err=b'rbacaudit: file 2: I1 read fault\n')
+        for words in NO_WAYS:
+            expect('not together: %s' % ' '.join(words), ['who-can', *words, 'get', 'pods', room], 2, err=BAD_INDIRECT)
+            expect('not together behind a URL: %s' % ' '.join(words), ['who-can', 'get', '/x', *words], 2, err=BAD_INDIRECT)
+            expect('an empty word before %s' % ' '.join(words), ['who-can', *words, 'get', ''], 2, err=b'rbacaudit: U2 empty word\n')
+        for words in (['--steps', 'runs'], ['--steps', 'runs', '--indirect', '--why'], ['--steps', '', '--every']):
+            expect('no steps before what goes together: %s' % ' '.join(words), ['who-can', *words, 'get', 'pods', room], 2, err=BAD_STEP)
         expect('no steps before a missing file', ['who-can', '--indirect', '--steps', 'runs', 'get', 'pods', room], 2, err=BAD_STEP)
         expect('an empty word before no steps', ['who-can', '--indirect', '--steps', 'runs', '', 'pods', room], 2, err=b'rbacaudit: U2 empty word\n')
         expect('a subresource of a URL before no steps', ['who-can', '--indirect', '--steps', 'runs', '--subresource', 'x', 'get', '/x', room], 2,
