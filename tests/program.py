@@ -209,7 +209,7 @@ def help_and_usage():
         checked('help of universe says "%s"' % said.decode(), said in run(['universe', '--help']).stdout)
     for said in (b'--before <FILE>', b'--after <FILE>', b'--without <FILE>', b'--with <FILE>', b'eight fields, joined by tabs'):
         checked('help of diff says "%s"' % said.decode(), said in run(['diff', '--help']).stdout)
-    for option in (b'--in-namespace', b'--anywhere', b'--any-name', b'--every', b'--why', b'--indirect', b'--steps <STEPS>', b'a line has eleven fields'):
+    for option in (b'--in-namespace', b'--anywhere', b'--any-name', b'--every', b'--why', b'--indirect', b'--steps <STEPS>', b'eleven fields'):
         checked('help of who-can names %s' % option.decode(), option in run(['who-can', '--help']).stdout)
     for said in (b'--only <CODES>', b'--skip-system', b'The exit status is 1 if a finding is listed', b'rbacaudit lint --only L1,L6 ',
                  b'rbacaudit lint --skip-system '):
