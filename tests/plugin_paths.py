@@ -72,11 +72,11 @@ EVERYTHING = '0\t*\t*' + '\t-' * 8 + '\n'
 BY_IDLER = '0\t%s\t-\t-\t-\t-\tRoleBinding/shop/cleans\tRole/shop/cleaner\tRole/shop/cleaner\t1\t1\n' % IDLER
 TO_IDLER = '1\t%s\t-\t%s\t-\trun\tRoleBinding/shop/ci-deploys\tRole/shop/deployer\tRole/shop/deployer\t1\t1\n' % (CI_KEY, IDLER)
 WAYS_WIDE = '''\
-STEPS  WHO                                 WHERE  TO                                  WHERE  STEP  BINDING                    ROLE                       SOURCE                     RULE  SUBJECT
-0      *                                   *      -                                   -      -     -                          -                          -                          -     -
-0      u:dana@example.com                  -      -                                   -      -     ClusterRoleBinding/admins  ClusterRole/cluster-admin  ClusterRole/cluster-admin  1     1
-0      u:system:serviceaccount:shop:idler  -      -                                   -      -     RoleBinding/shop/cleans    Role/shop/cleaner          Role/shop/cleaner          1     1
-1      u:system:serviceaccount:shop:ci     -      u:system:serviceaccount:shop:idler  -      run   RoleBinding/shop/ci-deploys  Role/shop/deployer       Role/shop/deployer         1     1
+STEPS  WHO                                 WHERE  TO                                  WHERE  STEP  BINDING                      ROLE                       SOURCE                     RULE  SUBJECT
+0      *                                   *      -                                   -      -     -                            -                          -                          -     -
+0      u:dana@example.com                  -      -                                   -      -     ClusterRoleBinding/admins    ClusterRole/cluster-admin  ClusterRole/cluster-admin  1     1
+0      u:system:serviceaccount:shop:idler  -      -                                   -      -     RoleBinding/shop/cleans      Role/shop/cleaner          Role/shop/cleaner          1     1
+1      u:system:serviceaccount:shop:ci     -      u:system:serviceaccount:shop:idler  -      run   RoleBinding/shop/ci-deploys  Role/shop/deployer         Role/shop/deployer         1     1
 '''
 
 
