@@ -30,6 +30,7 @@ from show_lines import (ANSWER, ANSWER_HEADLESS, ANSWER_TABLE, COMMANDS, DIFF, D
                         MATRIX_TABLE, OF_COUNTS, OF_ROW, OPS_WORDS, OPS_WORDS_44, PATHS, POWERS, ROWS, RULES, SHOP_WORDS, WAYS, WHY, WHY_TABLE, WORDS,
                         tabs)
 from written import contents, same
+from written import steps as steps_of_behaviour
 
 SHOW = os.path.join(TOP, 'plugin', 'rbacaudit-show')
 EXAMPLES = os.path.join(TOP, 'examples')
@@ -383,6 +384,9 @@ OF_PATHS = ['1 %s - u:kim - run %s' % (CI, GRANT), '1 %s - ClusterRole/r * token
 OF_WAYS = ['1 u:kim - %s - run %s' % (CI, GRANT), '1 ClusterRole/r * %s - token - ClusterRole/r ClusterRole/r 1 -' % CI, '2 * dev %s - exec - - - - -' % CI,
            '1 ClusterRole/r dev ClusterRole/s dev bind - ClusterRole/r ClusterRole/r 1 -', '1 u:kim - * dev escalate ' + GRANT, '3 u:kim - * * webhooks ' + GRANT,
            '0 u:kim - - - - ' + GRANT, '0 * * - - - - - - - -']
+# What each step takes over, and where.
+OVER = {**dict.fromkeys(('token', 'run', 'exec', 'secrets', 'nodes'), CI + ' -'), **dict.fromkeys(('escalate', 'certificates', 'webhooks'), '* *'),
+        'impersonate': 'g:ops -', 'bind': 'ClusterRole/s dev'}
 # Lines that both can.
 OF_BOTH = ['1 u:kim - g:ops - impersonate ' + GRANT, '1 %s - %s - secrets %s' % (CI, BOT, GRANT)]
 
@@ -405,7 +409,10 @@ def no_ways():
 def told_apart(it):
     """Lines of paths and of who-can --indirect have as many fields: who takes over whom tells them apart, and where both fit an option does."""
     heads = {'paths': 'STEPS TO WHERE FROM WHERE STEP', 'who-can --indirect': 'STEPS WHO WHERE TO WHERE STEP'}
-    for lines, command, words in ((OF_PATHS, 'paths', []), (OF_WAYS, 'who-can --indirect', []), (OF_WAYS, 'who-can --indirect', ['--indirect']),
+    it.same('what each step takes over', {*OVER}, {line[0] for line in steps_of_behaviour()})
+    for lines, command, words in ((['1 %s u:kim - %s %s' % (over, step, GRANT) for step, over in OVER.items()], 'paths', []),
+                                  (['1 u:kim - %s %s %s' % (over, step, GRANT) for step, over in OVER.items()], 'who-can --indirect', ['--indirect']),
+                                  (OF_PATHS, 'paths', []), (OF_WAYS, 'who-can --indirect', []), (OF_WAYS, 'who-can --indirect', ['--indirect']),
                                   (OF_BOTH, 'paths', []), (OF_BOTH, 'who-can --indirect', ['--indirect'])):
         for line in lines:
             status, out, err = it.run(tabs(line), *words)
