@@ -105,7 +105,8 @@ def ways(it):
                 (['--steps', 'exec', *in_shop], BY_ADMIN + BY_IDLER, ''), (['-A', 'delete', 'pods', 'cleans.json'], EVERYTHING + BY_ADMIN, ''),
                 (['-n', 'shpo', 'delete', 'pods', 'cleans.json'], EVERYTHING + BY_ADMIN, NO_SPACE % 'shpo'),
                 (['-n', 'shop', 'delete', 'nodes'], EVERYTHING + BY_ADMIN, SCOPED % ('nodes', '')),
-                (['-n', 'shop', 'delete', 'podz'], EVERYTHING + BY_ADMIN, UNLISTED % 'type podz')):
+                (['-n', 'shop', 'delete', 'podz'], EVERYTHING + BY_ADMIN, UNLISTED % 'type podz'),
+                (['-A', '*', '*.*'], EVERYTHING + BY_ADMIN, ''), (['-A', '*', '*'], EVERYTHING + BY_ADMIN, UNLISTED % 'type *')):
             it.expect('who comes to %s %s' % (line, place), ['who-can', '--indirect', *place, *line], 0, out, err)
     it.lines('calls')
     it.run('who-can', '--indirect', *in_shop)
