@@ -1,7 +1,7 @@
 # Completions of rbacaudit-show for bash; see rbacaudit.bash.
 
 _rbacaudit_show() {
-    local words='-o --output --no-headers --color --rules -h --help -V --version'
+    local words='-o --output --no-headers --color --rules --indirect -h --help -V --version'
     case ${COMP_WORDS[COMP_CWORD - 1]} in
         -o | --output) words='table wide json name' ;;
         --color) words='auto always never' ;;

@@ -30,7 +30,7 @@ _rbacaudit() {
             ;;
         who-can)
             options='-n,--namespace=text -A,--all-namespaces --in-namespace --subresource=text --anywhere --any-name --every --why
-                -h,--help'
+                --indirect --steps=step -h,--help'
             places=(verb text) rest=file
             ;;
         rules)

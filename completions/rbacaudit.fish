@@ -8,8 +8,8 @@ function __rbacaudit_options
             echo '^(--(as|groups|group|namespace|subresource)|-[^-n]*[n])$'
             string split ' ' 'as= groups= group= n/namespace= A/all-namespaces in-namespace subresource= q/quiet why h/help'
         case who-can
-            echo '^(--(namespace|subresource)|-[^-n]*[n])$'
-            string split ' ' 'n/namespace= A/all-namespaces in-namespace subresource= anywhere any-name every why h/help'
+            echo '^(--(namespace|subresource|steps)|-[^-n]*[n])$'
+            string split ' ' 'n/namespace= A/all-namespaces in-namespace subresource= anywhere any-name every why indirect steps= h/help'
         case rules
             echo '^(--(groups|group|namespace)|-[^-n]*[n])$'
             string split ' ' 'groups= group= n/namespace= A/all-namespaces h/help'
@@ -100,6 +100,10 @@ complete -c rbacaudit -n '__rbacaudit_lacks anywhere who-can' -l anywhere -d 'Co
 complete -c rbacaudit -n '__rbacaudit_lacks any-name who-can' -l any-name -d 'Count rules limited to object names too'
 complete -c rbacaudit -n '__rbacaudit_lacks every who-can' -l every -d 'List each holder with every binding that grants it'
 complete -c rbacaudit -n '__rbacaudit_lacks why who-can' -l why -d 'After the binding, print why'
+complete -c rbacaudit -n '__rbacaudit_lacks indirect who-can' -l indirect -d 'List also who comes to it step by step'
+complete -c rbacaudit -n '__rbacaudit_lacks steps who-can' -l steps -x -k \
+    -a 'impersonate token run exec secrets nodes bind escalate certificates webhooks' \
+    -d 'With --indirect, only these steps count (default: all of powers)'
 complete -c rbacaudit -n '__rbacaudit_lacks namespace rules' -s n -l namespace -x -d 'Namespace whose RoleBindings count (default: any)'
 complete -c rbacaudit -n '__rbacaudit_lacks all-namespaces rules' -s A -l all-namespaces -d 'Only what holds in all namespaces at once'
 complete -c rbacaudit -n '__rbacaudit_lacks every matrix' -l every -d 'List every binding that grants, not only the first'

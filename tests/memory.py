@@ -126,6 +126,13 @@ PATHS = ''.join('\t'.join(fields) + '\n' for fields in (
     ('2', 'ClusterRole/' + MAKER, '*', CI_KEY, '-', 'bind', 'ClusterRoleBinding/u', 'ClusterRole/binder', 'ClusterRole/binder', '1', '1'),
     ('3', 'u:system:serviceaccount:dev:bot', '-', '*', 'dev', 'impersonate', *'-----'),
     ('3', 'u:system:serviceaccount:prod:bot', '-', 'ClusterRole/' + MAKER, '*', 'run', '-', 'ClusterRole/' + MAKER, 'ClusterRole/' + MAKER, '1', '-')))
+# Who comes to delete a pod: by the worked export and what gives powers, and with the owners too.
+DELETES = 'RoleBinding/dev/b', 'Role/dev/r', 'Role/dev/r', '1'
+BY_THEMSELVES = [('0', 'u:bob-who-has-a-rather-long-name', *'----', *DELETES, '2'), ('0', CI_KEY, *'----', *DELETES, '1')]
+BY_GROUP = '1', 'g:dev', '-', CI_KEY, '-', 'impersonate', 'RoleBinding/dev/t', 'Role/dev/taker', 'Role/dev/taker', '2', '1'
+BY_MAKER = '1', 'ClusterRole/' + MAKER, '*', CI_KEY, '-', 'run', '-', 'ClusterRole/' + MAKER, 'ClusterRole/' + MAKER, '1', '-'
+WAYS, ALL_WAYS = (''.join('\t'.join(fields) + '\n' for fields in lines) for lines in (
+    (*BY_THEMSELVES, BY_GROUP), (('0', '*', 'dev', *'--------'), *BY_THEMSELVES, BY_MAKER, BY_GROUP)))
 # What the two bindings of the worked export bring: to the group dev, and to the subject at a place.
 GROUP_RULES = ''.join('ClusterRoleBinding/a\tClusterRole/admin\tClusterRole/%s\t%s\n' % (LONG, rest) for rest in (
     '1\t1\t[get]\t[-]\t[pods]\t[]\t[]', '2\t1\t[get]\t[]\t[]\t[]\t[/healthz*]'))
@@ -237,6 +244,23 @@ def long_paths():
         item('ClusterRoleBinding', {'name': 'c'}, roleRef=role_ref('ClusterRole', 'gone'), subjects=users(*names)))
     return Case('paths with long names', ['paths', 'u:kim'], given, 0, ''.join(
         '1\tu:%s\t-\tu:kim\t-\timpersonate\tClusterRoleBinding/b\tClusterRole/r\tClusterRole/r\t1\t1\n' % name for name in names))
+
+
+def few_ways():
+    return Case('who-can --indirect', ['who-can', '--indirect', '-n', 'dev', 'delete', 'pods/a'], export(*WORKED, *TAKERS), 0, WAYS)
+
+
+def long_ways():
+    """Users with ever longer names who get pods, and one who can impersonate them, so that memory is taken after a piece was written."""
+    names = [letter * size for letter, size in (('a', 40_000), ('b', 40_000), ('c', 150_000), ('d', 600_000))]
+    given = export(
+        item('ClusterRole', {'name': 'r'}, rules=[{'verbs': ['impersonate'], 'apiGroups': [''], 'resources': ['users']}]),
+        item('ClusterRole', {'name': 's'}, rules=[PODS]),
+        item('ClusterRoleBinding', {'name': 'b'}, roleRef=role_ref('ClusterRole', 'r'), subjects=users('kim')),
+        item('ClusterRoleBinding', {'name': 'c'}, roleRef=role_ref('ClusterRole', 's'), subjects=users(*names)))
+    lines = ['0\tu:%s\t-\t-\t-\t-\tClusterRoleBinding/c\tClusterRole/s\tClusterRole/s\t1\t%d\n' % (name, place) for place, name in enumerate(names, 1)]
+    lines += ['1\tu:kim\t-\tu:%s\t-\timpersonate\tClusterRoleBinding/b\tClusterRole/r\tClusterRole/r\t1\t1\n' % names[0]]
+    return Case('who-can --indirect with long names', ['who-can', '--indirect', 'get', 'pods'], given, 0, ''.join(lines))
 
 
 # The worked export after a change: its first role allows more, and one user takes the place of another.
@@ -445,6 +469,10 @@ def answers():
     yield Case('paths --groups --steps', ['paths', '--groups', 'ops,dev', '--steps', 'run,impersonate,bind,escalate', 'u:kim'],
                export(*WORKED, *TAKERS, *OWNERS), 0, PATHS)
     yield Case('paths to nobody', ['paths', '--steps', 'webhooks,exec', 'g:dev'], export(*WORKED, *TAKERS), 0)
+    yield few_ways()
+    yield Case('who-can --indirect --steps', ['who-can', '--indirect', '--steps', 'run,impersonate,bind,escalate', '-n', 'dev', 'delete', 'po/a'],
+               export(*WORKED, *TAKERS, *OWNERS), 0, ALL_WAYS)
+    yield Case('who-can --indirect, nobody', ['who-can', '--indirect', '-n', 'dev', '--subresource', 'log', 'delete', 'po/a'], export(*WORKED, *TAKERS), 0)
     yield Case('lint, no findings left', ['lint', '--only', 'L6', '--skip-system'], export(*WORKED, *SLIPS), 0)
 
 
@@ -504,6 +532,8 @@ def faults(room):
     yield Case('U7', ['diff', '--before', missing, '--after', missing, '--with', missing], b'', 2, err='U7 give either --after, or --with or --without')
     yield Case('U8', ['paths', '--steps', 'run,', 'u:kim', missing], b'', 2,
                err='U8 steps are impersonate, token, run, exec, secrets, nodes, bind, escalate, certificates, webhooks')
+    yield Case('U9', ['who-can', '--indirect', '--why', 'get', 'pods', missing], b'', 2,
+               err='U9 --indirect excludes --anywhere, --any-name, --every and --why; --steps needs --indirect')
     yield Case('a word that is not UTF-8', ['can-i', '--as', b'al\xffce', 'get', 'pods'], b'', 2, err='argument 3: not UTF-8')
     yield Case('I1', [*alice, missing], b'', 2, err='file 1: I1 read fault')
     yield Case('I2', [*alice, '/dev/zero'], b'', 2, err='file 1: I2 too long', step=7)
@@ -529,7 +559,7 @@ def parser_texts():
 def refused_memory(shim, room):
     """Every growth of memory in turn, and every growth from each on; two sweeps at a time."""
     cases = [(case, False) for case in (*answers(), *examples(), *changes(room), *matrices(), *parser_texts(), *faults(room))]
-    cases += [(case, True) for case in (long_matrix(), long_bindings(), long_holders(), long_rules(), long_paths(), long_changes(room))]
+    cases += [(case, True) for case in (long_matrix(), long_bindings(), long_holders(), long_rules(), long_paths(), long_ways(), long_changes(room))]
     cases += [(long_lists(), False)]
     asked = [(case, must_cut, mode) for case, must_cut in cases for mode in (False, True)]
     with concurrent.futures.ThreadPoolExecutor(2) as pool:
@@ -563,7 +593,7 @@ def endless_input(shim):
 
 def failed_writes(shim, room):
     """Each write in turn: of a long text as it is written in pieces, and of short ones that are taken at once or byte by byte."""
-    shorts = few_holders(), few_reasons(), each_binding(), few_rules(), few_paths(), few_changes(room), few_lists(), findings(), odd_names()
+    shorts = few_holders(), few_reasons(), each_binding(), few_rules(), few_paths(), few_ways(), few_changes(room), few_lists(), findings(), odd_names()
     longs = (long_matrix(), 0), (long_matrix(), 10_000), (long_rules(), 0), (long_changes(room), 0), (long_lists(), 10_000)
     pieces = [*longs, *itertools.product(shorts, (0, 1))]
     for (case, piece), error in itertools.product(pieces, (errno.ENOSPC, errno.EINTR, 0)):

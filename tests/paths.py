@@ -6,8 +6,7 @@ long, with names that mean something else in another place. Each answer of the p
 the definition. Then the laws are looked for in the program's answers alone: following a line's node before leads to the one
 asked about in as many lines; `paths` and `who-can --indirect` agree; and whoever has no line in `powers` comes to nobody.
 
-First of all the same is asked about the example cluster, of which some numbers are known. The program has `powers` and `paths`
-(BUILT): the definition answers `who-can --indirect` in its place.
+First of all the same is asked about the example cluster, of which some numbers are known.
 
 `paths.py SEED COUNT` tries other exports. `paths.py --reference COMMAND WORD.. [FILE]..` prints the lines of the definition,
 such as `paths.py --reference paths u:kim cluster.json`, without FILE those of standard input. `paths.py --rows` compares the
@@ -42,8 +41,8 @@ VERBS = ['get', 'create', 'bind', 'delete', 'Bind', '']
 GROUPS = ['', 'apps', 'batch', 'rbac.authorization.k8s.io', 'extensions']
 RESOURCES = ['pods', 'jobs', 'users', 'roles', 'serviceaccounts', 'nodes', 'secrets/x', 'pods/log', '*/exec', '*/token', '*/proxy', '*/approval',
              '*/*', '/']
-# The commands that the program has.
-BUILT = {'powers', 'paths'}
+# The URLs of rules.
+URLS = ['*', '/', '/healthz', '/healthz/*', '/metrics*', 'x']
 # How many lines `powers` has of each step over the example cluster.
 POWERS = {'impersonate': 10, 'token': 10, 'run': 15, 'exec': 12, 'secrets': 15, 'nodes': 6, 'bind': 7, 'escalate': 6, 'certificates': 5, 'webhooks': 5}
 
@@ -66,8 +65,8 @@ class World:
     def rule(self, in_cluster, step):
         """The words of a row of a step, less some and with others beside them."""
         draw = self.draw
-        if in_cluster and draw.random() < 0.05:
-            return {'verbs': ['*'], 'nonResourceURLs': ['*']}
+        if in_cluster and draw.random() < 0.08:
+            return {'verbs': some(draw, ['*', 'get', 'post'], 2), 'nonResourceURLs': some(draw, URLS)}
         row = draw.choice([row for row in TABLE if row.step == step])
         words = [word.partition('.') for word in some(draw, row.types)]
         drawn = {'verbs': self.words(some(draw, row.verbs), VERBS), 'apiGroups': self.words([group for _, _, group in words], GROUPS),
@@ -185,8 +184,17 @@ def who_asked(draw, world, given):
     return key, ['--group=' + group for group in groups]
 
 
+def url_asked(draw, given):
+    """The words of a question about a URL, mostly one that a grant allows. A namespace is given, and doesn't count."""
+    words = [word for _, _, rule, _ in given.grants for word in rule.get('nonResourceURLs', []) if word.startswith('/')]
+    url = draw.choice(words).rstrip('*') + draw.choice(['', '', 'x']) if words and draw.random() < 0.7 else draw.choice(['/', '/healthz'])
+    return draw.choice([[], ['-A'], *(['--namespace=' + home] for home in given.homes)]), [draw.choice(['get', 'get', 'post']), url]
+
+
 def target_asked(draw, given):
     """The words of a question: where, and a verb and a target; mostly what a grant allows, or a row asks for."""
+    if draw.random() < 0.1:
+        return url_asked(draw, given)
     row, home = draw.choice(TABLE), draw.choice([*given.homes, None])
     resource, _, group = draw.choice(row.types).partition('.')
     verb, name = draw.choice(row.verbs), ''
@@ -195,8 +203,8 @@ def target_asked(draw, given):
         home, rule = draw.choice(grants)
         verb, group, resource = (draw.choice(rule[part]) for part in ('verbs', 'apiGroups', 'resources'))
         name = draw.choice(rule.get('resourceNames') or [''])
-    if draw.random() < 0.05 or resource.startswith('/'):
-        return ['-A'], [verb or 'get', draw.choice(['/', '/healthz'])]
+    if resource.startswith('/'):
+        return ['-A'], [verb or 'get', resource]
     if draw.random() < 0.3 or not home:
         home = draw.choice([*given.homes, '', None])
     where = ['-A'] if home is None else ['--namespace=' + home] if home else []
@@ -213,7 +221,7 @@ def questions(draw, world, given):
     for _ in range(7):
         key, groups = who_asked(draw, world, given)
         yield ['paths', *groups, *steps, '--', key]
-    for _ in range(3):
+    for _ in range(4):
         options, words = target_asked(draw, given)
         yield ['who-can', '--indirect', *options, *steps, '--', *words]
 
@@ -353,7 +361,7 @@ def broken_law(answers, given):
             return 'who-can %s %s: following the node after does not lead there' % (asked.verb, asked.target)
     for (asked, lines), (other, nodes) in itertools.product(held, ways):
         is_plain = not given_groups(other) and escalation.node_of(other.who) in given.principals
-        if is_plain and other.steps == asked.steps and least(other, nodes, lines) != number_of(other, lines):
+        if is_plain and other.steps == asked.steps and least(other, nodes, request_of(asked), given) != number_of(other, lines):
             return 'paths %s and who-can %s %s do not agree' % (other.who, asked.verb, asked.target)
     return None
 
@@ -371,11 +379,11 @@ def number_of(asked, lines):
     return next((line.number for line in lines if line.node == shown), None)
 
 
-def least(asked, nodes, lines):
-    """The least number of steps to a node that can by itself, or nothing."""
-    can = {line.node for line in lines if not line.number}
-    numbers = [line.number for line in nodes if line.node in can]
-    return 0 if number_of(asked, lines) == 0 else min(numbers, default=None)
+def least(asked, lines, request, given):
+    """The least number of steps from the one asked about to a node that allows the request, by its paths; or nothing."""
+    allow = {escalation.shown(node) for node in given.nodes if given.why(node, [request])}
+    numbers = {escalation.shown(escalation.node_of(asked.who)): 0, **{line.node: line.number for line in lines}}
+    return min((number for node, number in numbers.items() if node in allow), default=None)
 
 
 # ---- trying
@@ -393,7 +401,7 @@ def wrong_answer(words, given, ask):
     answers = []
     for asked, its in ((PARSER.parse_args(its), its) for its in words):
         wanted = answer(asked, given)
-        got = ask(its) if ask and asked.command in BUILT else wanted
+        got = ask(its) if ask else wanted
         if got != wanted:
             return '%s: wanted %r, got %r' % (its, wanted, got), answers
         answers.append((asked, got))
@@ -435,13 +443,26 @@ def count(counts, asked, lines):
         counts['%s by %s' % (asked.command, step)] += 1
         if asked.command != 'powers':
             counts['%s of %d steps' % (asked.command, min(read(text).number, 4))] += 1
+    for kind in kinds_of(asked) if lines else ():
+        counts['%s %s' % (asked.command, kind)] += 1
+
+
+# What a question of `who-can` may be.
+KINDS = ['of a URL', 'of a name', 'of a subresource', 'everywhere', 'in a namespace', 'by some steps']
+
+
+def kinds_of(asked):
+    if asked.command == 'who-can':
+        is_url = asked.target.startswith('/')
+        has = [is_url, not is_url and '/' in asked.target, asked.subresource, asked.all_namespaces, asked.namespace, asked.steps != STEPS]
+        yield from (kind for kind, well in zip(KINDS, has) if well)
 
 
 def too_few(counts, exports):
     """What is hardly drawn: each step in each command, each number of steps, and answers with and without a line."""
     wanted = ['%s by %s' % (command, step) for command in ('powers', 'paths', 'who-can') for step in STEPS]
     wanted += ['%s of %d steps' % (command, number) for command in ('paths', 'who-can') for number in range(command == 'paths', 5)]
-    wanted += [command + ' without a line' for command in ('powers', 'paths', 'who-can')]
+    wanted += [command + ' without a line' for command in ('powers', 'paths', 'who-can')] + ['who-can ' + kind for kind in KINDS]
     return [name for name in wanted if counts[name] < exports // 100]
 
 

@@ -1,6 +1,6 @@
 """The kubectl plugin, under dash and under bash, with a stand-in for kubectl and the built program.
 
-plugin_room.py has the stand-in, plugin_exports.py the exports, plugin_questions.py the questions,
+plugin_room.py has the stand-in, plugin_exports.py the exports, plugin_questions.py the questions, plugin_paths.py those of paths,
 plugin_remarks.py what is said beside answers, plugin_changes.py and plugin_manifests.py changes and manifests, plugin_advice.py what is said behind errors,
 plugin_server.py both once more with kubectl itself, plugin_terminal.py what a terminal shows, plugin_show.py formats and summaries,
 and plugin_sarif.py what code hosts get.
@@ -21,6 +21,7 @@ import plugin_advice
 import plugin_changes
 import plugin_exports
 import plugin_manifests
+import plugin_paths
 import plugin_questions
 import plugin_remarks
 import plugin_sarif
@@ -145,6 +146,8 @@ COMPLETED = [
     (['can-i', '--as', 'x', '-qA', 'get', ''], [], NOTHING),
     (['who-can', '-An', 'shop', 'get', 'pods', ''], [], FILES),
     (['who-can', '-n=shop', '--', '-x', '-y', '-'], [], FILES),
+    (['who-can', '--in'], ['--in-namespace', '--indirect'], NOTHING), (['who-can', '--indirect', '--steps', 'e'], ['exec', 'escalate'], NOTHING),
+    (['who-can', '--steps=run', '--indirect', 'get', 'pods', '--s'], ['--subresource'], NOTHING), (['who-can', '--steps', 'run', 'get', 'pods', ''], [], FILES),
     (['rules', ''], [], NOTHING), (['rules', '--groups', ''], [], NOTHING),
     (['rules', '-An', 'x', '--groups=y', ''], [], NOTHING), (['rules', 'u:kim', ''], [], FILES),
     (['rules', '--groups', 'x', 'u:kim', 'y', ''], [], FILES),
@@ -285,6 +288,6 @@ def told(words_, folder, tools_=os.path.dirname(PROGRAM)):
 
 
 if __name__ == '__main__':
-    sys.exit(tested(*plugin_exports.CHECKS, *plugin_questions.CHECKS, *plugin_remarks.CHECKS, *plugin_changes.CHECKS, *plugin_manifests.CHECKS, *plugin_advice.CHECKS,
+    sys.exit(tested(*plugin_exports.CHECKS, *plugin_questions.CHECKS, *plugin_paths.CHECKS, *plugin_remarks.CHECKS, *plugin_changes.CHECKS, *plugin_manifests.CHECKS, *plugin_advice.CHECKS,
                     *plugin_server.CHECKS, *plugin_terminal.CHECKS, *plugin_show.CHECKS, *plugin_sarif.CHECKS,
                     tools, functions, script, make_run, completions, in_kubectl, man_page))

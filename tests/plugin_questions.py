@@ -251,64 +251,6 @@ def powers(it):
               ''.join('%s\t%s' % (step, OF_DANA) for step in STEPS), missing + CAUTION)
 
 
-IDLER = 'u:system:serviceaccount:shop:idler'
-BY_CI = '1\t%s\t-\t%s\t-\trun\tRoleBinding/shop/ci-deploys\tRole/shop/deployer\tRole/shop/deployer\t1\t1\n' % (IDLER, CI_KEY)
-BY_OWNER = ('1\t*\tshop-staging\t%s\t-\tbind\tRoleBinding/shop-staging/developers-own\tRole/shop-staging/owner\tRole/shop-staging/owner\t1\t1\n')
-PATHS_WIDE = '''\
-STEPS  TO                                  WHERE  FROM                             WHERE  STEP  BINDING                      ROLE                SOURCE              RULE  SUBJECT
-1      u:system:serviceaccount:shop:idler  -      u:system:serviceaccount:shop:ci  -      run   RoleBinding/shop/ci-deploys  Role/shop/deployer  Role/shop/deployer  1     1
-'''
-
-
-def serve_idler(it):
-    """A service account that no binding names, beside the others."""
-    accounts = served()['accounts']
-    accounts['items'].append({'apiVersion': 'v1', 'kind': 'ServiceAccount', 'metadata': {'name': 'idler', 'namespace': 'shop'}})
-    it.serve({'accounts': accounts})
-
-
-@in_each_shell
-def paths(it):
-    """What somebody can come to, by a fresh export and by one in a folder, in each format, and what is said beside it."""
-    serve_idler(it)
-    it.run('export', 'prod')
-    developers, kim = 'g:shop-developers', 'u:kim@example.com'
-    for place in ([], ['--export', 'prod'], ['--partial', '--export=prod']):
-        for line, out, err in (
-                ([CI_KEY], BY_CI, ''), ([CI_KEY, '--steps', 'secrets,run'], BY_CI, ''), (['--steps=exec,secrets', CI_KEY], '', ''), ([IDLER], '', ''),
-                ([developers], BY_OWNER % developers, ''), (['--steps', 'run', developers], '', ''), (['--groups', 'shop-developers', kim], BY_OWNER % kim, ''),
-                (['--group=shop-developers', '--steps', 'bind', '--', kim], BY_OWNER % kim, ''), ([kim], '', NO_USER % (kim[2:], NO_GROUPS)),
-                ([kim, '--groups', 'shop-developer'], '', NO_USER % (kim[2:], '') + NO_GROUP % ' shop-developer: check the spelling'),
-                ([CI_KEY + 'i'], '', NO_ACCOUNT % ('cii', 'shop'))):
-            it.expect('paths %s %s' % (line, place), ['paths', *place, *line], 0, out, err)
-    for line in ([developers], [CI_KEY], ['--groups', 'shop-developers', kim]):
-        it.lines('calls')
-        it.run('paths', *line)
-        got = it.lines('calls')
-        it.checked('paths %s reads roles, bindings and accounts alone, each once' % line, len(got) == 3, got)
-    for words_, wanted in ((['-o', 'wide'], PATHS_WIDE), (['--output=table', '--color', 'always'], PATHS_WIDE), (['-oname'], IDLER + '\n')):
-        it.expect('paths %s' % words_, ['paths', '--export', 'prod', CI_KEY, *words_], 0, wanted)
-    status, out, err = got = it.run('paths', '--export', 'prod', developers, '-o', 'json')
-    keys = 'steps who where from from_where step binding role source rule subject'.split()
-    it.checked('paths as JSON', (status, err) == (0, '') and json.loads(out) == dict(zip(keys, (
-        1, '*', 'shop-staging', developers, '', 'bind', 'RoleBinding/shop-staging/developers-own', *['Role/shop-staging/owner'] * 2, 1, 1))), got)
-    it.write(json.dumps({'apiVersion': 'v1', 'kind': 'ServiceAccount', 'metadata': {'name': 'new', 'namespace': 'shop'}}), 'new.json')
-    it.expect('paths with a FILE', ['paths', CI_KEY, 'new.json', '--export', 'prod'], 0, BY_CI + BY_CI.replace('idler', 'new'))
-    it.write('[]', 'bad.json')
-    it.expect('a bad FILE of paths', ['paths', '--steps', 'run', CI_KEY, 'bad.json', '--export', 'prod'], 2, '',
-              'rbacaudit: file 1: M2 not an object\nkubectl-rbacaudit: file 1 is bad.json\n')
-    for name in ('namespaces.json', 'api-v1.json'):
-        os.remove(os.path.join(it.work, 'prod', name))
-    it.expect('paths read no namespaces and no API lists', ['paths', CI_KEY, '--export', 'prod'], 0, BY_CI)
-    os.remove(os.path.join(it.work, 'prod', 'accounts.json'))
-    missing = 'kubectl-rbacaudit: there is no accounts.json in prod\n'
-    it.expect('paths without accounts', ['paths', CI_KEY, '--export', 'prod'], 2, '', missing + REFUSAL)
-    it.expect('paths without accounts, --partial', ['paths', CI_KEY, '--export', 'prod', '--partial', 'new.json'], 0,
-              BY_CI.replace('idler', 'new'), missing + CAUTION)
-    status, out, err = got = it.run('paths', CI_KEY, trouble=['forbid accounts'])
-    it.checked('paths where nobody may read accounts', (status, out) == (2, '') and "accounts.json can't be read" in err and err.endswith(REFUSAL), got)
-
-
 ALONE = 'kubectl-rbacaudit: the export has the namespace shop alone'
 
 
@@ -326,6 +268,11 @@ def alone(it):
     it.expect('about another, --partial', [*who, '-n', 'monitoring', '--partial', 'list', 'pods'],
               0, DANA,
               ALONE + '\n' + CAUTION + NO_SPACE % 'monitoring')
+    who = ['who-can', '--indirect', '--export', 'own']
+    for place in (['-n', 'shop'], ['-A']):
+        status, out, err = got = it.run(*who, *place, 'list', 'pods')
+        it.checked('who comes to it, %s' % place, status == 0 and out.startswith('0\t') and err == ALONE + ', and this answer knows no other\n', got)
+    it.expect('who comes to another', [*who, '-n', 'monitoring', 'list', 'pods'], 2, '', ALONE + '\n' + REFUSAL)
     group = ['rules', '--export', 'own', 'g:shop-developers']
     it.expect('rules in its namespace', [*group, '-n', 'shop'], 0, VIEW_RULES)
     it.expect('rules in the whole cluster', [*group, '-A', '-n', 'monitoring'], 0)
@@ -463,24 +410,6 @@ def stale_powers(it):
 
 
 @in_each_shell
-def stale_paths(it):
-    """A stale aggregate is reported where it leads to others in the cluster, or by another step: not where another rule gives the same."""
-    line = '1\tu:system:serviceaccount:%s\t-\tu:kim\t-\tsecrets\tClusterRoleBinding/b\tClusterRole/a\tClusterRole/part\t1\t1\n'
-    lines = ''.join(line % name for name in ('monitoring:prometheus', 'shop:ci'))
-    said = ('kubectl-rbacaudit: the cluster has other paths now, because of stale aggregates (L6 of lint): ClusterRole/a\n')
-    for written, gathered, out, err in (('get', 'delete', '', said), ('delete', 'get', lines, said), ('list', 'get', lines, ''), ('update', 'delete', '', '')):
-        it.serve({'cluster': stale_with(written, gathered), 'namespaced': of_kinds([])})
-        it.run('export', '--force', 'prod')
-        for place in ([], ['--export', 'prod']):
-            it.expect('paths of a stale aggregate: %s, %s %s' % (written, gathered, place), ['paths', *place, 'u:kim'], 0, out, err)
-            it.expect('by a step that it does not give: %s, %s %s' % (written, gathered, place), ['paths', '--steps', 'run', *place, 'u:kim'], 0)
-    impersonates = stale_with('get', 'list')
-    impersonates['items'][0]['rules'].append({'verbs': ['impersonate'], 'apiGroups': [''], 'resources': ['serviceaccounts']})
-    it.serve({'cluster': impersonates, 'namespaced': of_kinds([])})
-    it.expect('another step to the same', ['paths', 'u:kim'], 0, lines, said)
-
-
-@in_each_shell
 def words(it):
     """Words that rbacaudit refuses end before a call to a cluster; what looks like an option may be a value."""
     for line, said in ((['can-i', 'get', 'pods'], '--as'), (['can-i', *KIM, 'list'], '<TARGET>'), (['who-can', 'get'], '<TARGET>'),
@@ -492,6 +421,11 @@ def words(it):
                        (['paths', 'u:kim', '--steps', 'run,', 'a.json'], 'U8 '), (['paths', 'u:kim', '--steps'], '--steps'),
                        (['paths', '-n', 'shop', 'u:kim'], '-n'), (['paths', '-A', 'u:kim'], '-A'), (['paths', '--why', 'u:kim'], '--why'),
                        (['paths', '-q', 'u:kim'], '-q'), (['paths', '--export', 'x', 'u:kim'], 'there is no folder x'),
+                       *((['who-can', '--indirect', *more, 'get', 'pods'], said) for more, said in (
+                           (['--why'], 'U9 '), (['--every'], 'U9 '), (['--any-name'], 'U9 '), (['--anywhere'], 'U9 '), (['--steps', 'run,'], 'U8 '),
+                           (['--steps', 'walk'], 'rbacaudit: U8 steps are %s\n' % ', '.join(STEPS)), (['--indirect'], '--indirect'), (['-q'], '-q'),
+                           (['--as', 'kim'], '--as'), (['--export', 'x'], 'there is no folder x'))),
+                       (['who-can', '--steps', 'run', 'get', 'pods'], 'U9 '), (['who-can', '--indirect', 'get'], '<TARGET>'), (['paths', '--indirect', 'u:kim'], '--indirect'),
                        (['matrix', '--after', 'x'], 'U4 bad token'), (['can-i', '--as', '', 'get', 'pods'], 'U2 empty word'),
                        (['lint', '--only', ''], 'U6 bad code'), (['lint', '--only', 'L6,', 'a.json'], 'U6 bad code'), (['lint', '--only'], '--only'),
                        (['can-i', '--as', '--partial', 'get', 'pods'], '--as'), (['lint', '--limit', '1'], '--limit'),
@@ -808,5 +742,5 @@ def universes(it):
     it.checked('a universe of nothing is a document too', status == 0 and document(out) == {**wanted, 'resources': []}, got)
 
 
-CHECKS = [questions, rules, powers, paths, namespaces, own_objects, accounts, alone, idle_groups, stale_aggregates, stale_powers, stale_paths, words, files,
+CHECKS = [questions, rules, powers, namespaces, own_objects, accounts, alone, idle_groups, stale_aggregates, stale_powers, words, files,
           universe_faults, parts, gaps, types, subresources, universes]

@@ -400,7 +400,8 @@ def errors(it):
                  ['diff', '--from', 'r.json', '--to', 'r.json', '--summary']):
         status, out, err = got = without_cluster(it, *line, '-o', 'sarif')
         it.checked('no SARIF: %s' % line, (status, out) == (2, '') and err, got)
-    for line in (['can-i', '--as', 'kim', 'get', 'pods'], ['rules', 'u:kim'], ['paths', 'u:kim'], ['matrix'], ['who-can', 'get', 'pods'], ['universe'], ['read', 'r.json']):
+    for line in (['can-i', '--as', 'kim', 'get', 'pods'], ['rules', 'u:kim'], ['paths', 'u:kim'], ['matrix'], ['who-can', 'get', 'pods'], ['who-can', '--indirect', 'get', 'pods'],
+                 ['universe'], ['read', 'r.json']):
         status, out, err = got = without_cluster(it, *line, '-o', 'sarif')
         it.checked('%s has no SARIF' % line, (status, out) == (2, '') and err, got)
     with open('/dev/full', 'wb') as full:

@@ -129,7 +129,8 @@ ANSWERS = [
     (['matrix', 'u.json'], 0, 'u:{3}\t-\tdelete\t-\t{2}\t-\tClusterRoleBinding/{0}\nend\n'),
     (['lint'], 1, 'L4\tescalation\tClusterRole/{1}\t2\tbind\n'),
     (['powers'], 0, 'bind\tu:{3}\t*\tClusterRoleBinding/{0}\tClusterRole/{1}\tClusterRole/{1}\t2\t1\n'),
-    (['paths', 'u:' + USER], 0, '1\t*\t*\tu:{3}\t-\tbind\tClusterRoleBinding/{0}\tClusterRole/{1}\tClusterRole/{1}\t2\t1\n')]
+    (['paths', 'u:' + USER], 0, '1\t*\t*\tu:{3}\t-\tbind\tClusterRoleBinding/{0}\tClusterRole/{1}\tClusterRole/{1}\t2\t1\n'),
+    (['who-can', '--indirect', '-A', 'delete', TYPE], 0, '0\t*\t*' + '\t-' * 8 + '\n0\tu:{3}' + '\t-' * 4 + WHY)]
 
 
 @in_each_shell

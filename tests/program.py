@@ -17,7 +17,6 @@ import tempfile
 
 from common import PODS, PROGRAM, TOP, V1, V1BETA1, bare, checked, export, tested
 from meaning import document_text
-from paths import BUILT
 from transcripts import (example_cluster, links_and_heads, loop_of_pages, spaced_bindings,
                          transcripts)
 
@@ -45,6 +44,11 @@ BAD_CHANGES = ([], ['--before', 'b'], ['--after', 'b', '--with', 'c'], ['--witho
 # The steps of the table, in its order.
 STEPS = ('impersonate', 'token', 'run', 'exec', 'secrets', 'nodes', 'bind', 'escalate', 'certificates', 'webhooks')
 BAD_STEP = b'rbacaudit: U8 steps are impersonate, token, run, exec, secrets, nodes, bind, escalate, certificates, webhooks\n'
+BAD_INDIRECT = b'rbacaudit: U9 --indirect excludes --anywhere, --any-name, --every and --why; --steps needs --indirect\n'
+# Options of `who-can` that don't go together.
+NO_WAYS = [*(['--indirect', *options] for count in range(1, 5) for options in itertools.combinations(['--anywhere', '--any-name', '--every', '--why'], count)),
+           ['--why', '--indirect'], ['-A', '--anywhere', '--indirect'], ['--indirect', '--steps', 'run', '--every'], ['--steps', 'run'],
+           ['--steps', 'run', '--why'], ['--steps=' + ','.join(STEPS), '-A']]
 
 
 def run(words, given=b'', **how):
@@ -205,7 +209,7 @@ def help_and_usage():
         checked('help of universe says "%s"' % said.decode(), said in run(['universe', '--help']).stdout)
     for said in (b'--before <FILE>', b'--after <FILE>', b'--without <FILE>', b'--with <FILE>', b'eight fields, joined by tabs'):
         checked('help of diff says "%s"' % said.decode(), said in run(['diff', '--help']).stdout)
-    for option in (b'--in-namespace', b'--anywhere', b'--any-name', b'--every', b'--why'):
+    for option in (b'--in-namespace', b'--anywhere', b'--any-name', b'--every', b'--why', b'--indirect', b'--steps <STEPS>', b'eleven fields'):
         checked('help of who-can names %s' % option.decode(), option in run(['who-can', '--help']).stdout)
     for said in (b'--only <CODES>', b'--skip-system', b'The exit status is 1 if a finding is listed', b'rbacaudit lint --only L1,L6 ',
                  b'rbacaudit lint --skip-system '):
@@ -247,6 +251,12 @@ def help_and_usage():
                   ['paths', '--every', 'u:a'], ['paths', '--limit', '1', 'u:a'], ['paths', '--only', 'L1', 'u:a'], ['paths', '--step', 'run', 'u:a'],
                   ['paths', '--steps', 'run', '--steps', 'exec', 'u:a'], ['paths', '--steps', '-run', 'u:a'],
                   ['paths', '--groups', 'a', '--groups', 'b', 'u:a'], ['paths', '--groups', '-a', 'u:a'], ['paths', '--group', '-a', 'u:a'],
+                  ['who-can', '--indirect'], ['who-can', '--indirect', 'get'], ['who-can', '--indirect', '--indirect', 'get', 'pods'],
+                  ['who-can', '--indirect=x', 'get', 'pods'], ['who-can', '--indirect', '--as', 'a', 'get', 'pods'],
+                  ['who-can', '--indirect', '--groups', 'a', 'get', 'pods'], ['who-can', '--indirect', '--limit', '1', 'get', 'pods'],
+                  ['who-can', '--indirect', '--steps', 'run', '--steps', 'exec', 'get', 'pods'], ['who-can', '--indirect', '--steps', '-run', 'get', 'pods'],
+                  ['paths', '--indirect', 'u:a'], ['can-i', '--as', 'a', '--indirect', 'get', 'pods'], ['can-i', '--as', 'a', '--steps', 'run', 'get', 'pods'],
+                  ['rules', '--indirect', 'u:a'], ['powers', '--indirect'], ['lint', '--indirect'], ['matrix', '--indirect'],
                   ['matrix', '--limit', '1', '--limit', '1'], ['matrix', '--after', 'MQ', '--after', 'MQ'], ['matrix', '-n', 'dev'],
                   ['lint', '--limit', '1'], ['lint', '-n', 'dev'], ['help'], ['rules'], ['rules', '-A'], ['rules', '--why', 'u:a'], ['rules', '-q', 'u:a'],
                   ['rules', '--as', 'a', 'u:a'], ['rules', '-A', '-A', 'u:a'], ['rules', '--groups', 'a', '--groups', 'b', 'u:a'],
@@ -258,7 +268,8 @@ def help_and_usage():
              ended.returncode == 2 and not ended.stdout and b'Usage' in ended.stderr, repr(ended))
     for words, option in ((['diff', '--before', '--after', 'a'], b'--before <FILE>'), (['diff', '--after', 'a', '--before'], b'--before <FILE>'),
                           (['diff', '--before', 'a', '--with'], b'--with <FILE>'), (['diff', '--without', '--before', 'a'], b'--without <FILE>'),
-                          (['lint', '--only'], b'--only <CODES>'), (['paths', 'u:a', '--steps'], b'--steps <STEPS>')):
+                          (['lint', '--only'], b'--only <CODES>'), (['paths', 'u:a', '--steps'], b'--steps <STEPS>'),
+                          (['who-can', '--indirect', 'get', 'pods', '--steps'], b'--steps <STEPS>')):
         ended = run(words)
         checked('refused: %s' % ' '.join(words), ended.returncode == 2 and not ended.stdout and option in ended.stderr, repr(ended))
     for limit in ('0', '1000001', '4294967297', '-1', '1.5', 'x', ''):
@@ -296,6 +307,18 @@ def steps():
                          (','.join(others), ''), *((step, '') for step in others)):
         expect('steps %.60s' % text, ['paths', '--steps', text, 'u:alice'], 0, wanted.encode(), given=given)
     expect('all steps', ['paths', 'u:alice'], 0, by_run.encode(), given=given)
+    asked = ['who-can', '--indirect', '-n', 'dev']
+    for text in ('', 'run,', 'run,,exec', 'Run', 'runs', 'run exec', ' run', '*', 'create'):
+        expect('%r are no steps of who-can' % text, [*asked, '--steps=' + text, 'get', 'configmaps'], 2, err=BAD_STEP, given=given)
+    given = export(role('dev', 'r', rules), binding('RoleBinding', 'b', 'Role', 'r', 'dev'), role('dev', 's', [{**PODS, 'resources': ['configmaps']}]),
+                   {**binding('RoleBinding', 'c', 'Role', 's', 'dev'), 'subjects': [{'kind': 'ServiceAccount', 'name': 'ci'}]})
+    ci = '0\tu:system:serviceaccount:dev:ci\t-\t-\t-\t-\tRoleBinding/dev/c\tRole/dev/s\tRole/dev/s\t1\t1\n'
+    line = ci + '1\tu:alice\t-\tu:system:serviceaccount:dev:ci\t-\t%s\tRoleBinding/dev/b\tRole/dev/r\tRole/dev/r\t%d\t1\n'
+    by_secrets, by_run = (line % told for told in (('secrets', 1), ('run', 2)))
+    for text, wanted in (('run', by_run), ('secrets', by_secrets), ('secrets,run', by_run), ('secrets,secrets', by_secrets), (','.join(STEPS[::-1]), by_run),
+                         (','.join(others), ci), *((step, ci) for step in others)):
+        expect('steps %.60s of who-can' % text, [*asked, '--steps', text, 'get', 'configmaps'], 0, wanted.encode(), given=given)
+    expect('all steps of who-can', [*asked, 'get', 'configmaps'], 0, by_run.encode(), given=given)
 
 
 def full_disk():
@@ -318,11 +341,11 @@ def little_memory():
 
 
 def rows():
-    """The worked rows of rows.json, each under the rule that it shows; and those of rows_paths.json, as far as the program has the command."""
+    """The worked rows of rows.json and of rows_paths.json, each under the rule that it shows."""
     with open(os.path.join(TOP, 'tests', 'rows.json'), encoding='utf-8') as file:
         table = json.load(file)
     with open(os.path.join(TOP, 'tests', 'rows_paths.json'), encoding='utf-8') as file:
-        table['lines'] += ({**row, 'asks': [ask for ask in row['asks'] if ask[0].split(' ')[0] in BUILT]} for row in json.load(file)['lines'])
+        table['lines'] += json.load(file)['lines']
     answers(table['answers'])
     lines(table['lines'])
     changes(table['changes'])
@@ -496,6 +519,39 @@ def paths_streams():
     expect('paths of too many grants', asked, 2, err=b'rbacaudit: M11 too many grants\n', given=export(*many_grants(1001)))
 
 
+def ways_streams():
+    """Who comes to a request by an export in files, of a bad document, of nothing, and on a full disk."""
+    runs = cluster_role('r', [{'verbs': ['create'], 'apiGroups': ['batch'], 'resources': ['jobs']}, {'verbs': ['get'], 'nonResourceURLs': ['/x']}])
+    bound = {**binding('ClusterRoleBinding', 'a', 'ClusterRole', 's'), 'subjects': [{'kind': 'ServiceAccount', 'name': 'ci', 'namespace': 'dev'}]}
+    line = (b'0\tu:system:serviceaccount:dev:ci\t-\t-\t-\t-\tClusterRoleBinding/a\tClusterRole/s\tClusterRole/s\t1\t1\n'
+            b'1\tu:alice\t-\tu:system:serviceaccount:dev:ci\t-\trun\tClusterRoleBinding/b\tClusterRole/r\tClusterRole/r\t1\t1\n')
+    asked = ['who-can', '--indirect', 'get', 'pods']
+    with tempfile.TemporaryDirectory() as room:
+        files = put_files(room, 'ways', [[runs, cluster_role('s', [PODS])], [binding('ClusterRoleBinding', 'b', 'ClusterRole', 'r'), bound]])[1:]
+        others = put_files(room, 'other', [
+            [{'apiVersion': 'rbacaudit/v1', 'kind': 'Universe', 'principals': [], 'namespaces': []}],
+            [{'kind': 'APIResourceList', 'groupVersion': 'batch/v1', 'resources': [{'name': 'jobs', 'namespaced': False}]}]])[1:]
+        expect('who comes to pods by two files', [*asked, *files], 0, line)
+        expect('a universe hides nobody, and an API resource list changes no step', [*asked, *files, *others], 0, line)
+        expect('who comes to it by a file and a missing one', [*asked, files[0], room], 2, err=b'rbacaudit: file 2: I1 read fault\n')
+        for words in NO_WAYS:
+            expect('not together: %s' % ' '.join(words), ['who-can', *words, 'get', 'pods', room], 2, err=BAD_INDIRECT)
+            expect('not together behind a URL: %s' % ' '.join(words), ['who-can', 'get', '/x', *words], 2, err=BAD_INDIRECT)
+            expect('an empty word before %s' % ' '.join(words), ['who-can', *words, 'get', ''], 2, err=b'rbacaudit: U2 empty word\n')
+        for words in (['--steps', 'runs'], ['--steps', 'runs', '--indirect', '--why'], ['--steps', '', '--every']):
+            expect('no steps before what goes together: %s' % ' '.join(words), ['who-can', *words, 'get', 'pods', room], 2, err=BAD_STEP)
+        expect('no steps before a missing file', ['who-can', '--indirect', '--steps', 'runs', 'get', 'pods', room], 2, err=BAD_STEP)
+        expect('an empty word before no steps', ['who-can', '--indirect', '--steps', 'runs', '', 'pods', room], 2, err=b'rbacaudit: U2 empty word\n')
+        expect('a subresource of a URL before no steps', ['who-can', '--indirect', '--steps', 'runs', '--subresource', 'x', 'get', '/x', room], 2,
+               err=b'rbacaudit: U3 subresource with a URL\n')
+        with open('/dev/full', 'wb') as full:
+            ended = run([*asked, *files], stdout=full)
+        checked('who comes to it on a full disk', (ended.returncode, ended.stderr) == (2, b'rbacaudit: write failed after 0 bytes\n'), repr(ended))
+    expect('who comes to it by a bad document', asked, 2, err=b'rbacaudit: file 1: M2 not an object\n', given=b'[]')
+    expect('who comes to it without roles', asked, 0, given=export(BOUND))
+    expect('who comes to it by too many grants', asked, 2, err=b'rbacaudit: M11 too many grants\n', given=export(*many_grants(1001)))
+
+
 def universe(**lists):
     return export({'apiVersion': 'rbacaudit/v1', 'kind': 'Universe', **lists})
 
@@ -585,6 +641,11 @@ def long_paths():
     chain = ''.join('%d\t%s\t-\t%s\t-\trun\tRoleBinding/n%03d/b\tClusterRole/r\tClusterRole/r\t1\t1\n'
                     % (i, key('n%03d' % i, 'x'), key('n%03d' % (i - 1), 'x'), i) for i in range(1, 300))
     expect('a chain of three hundred accounts', ['paths', key('n000', 'x')], 0, chain.encode(), given=export(runs, *items))
+    sees = [role('z', 's', [PODS]), {**binding('RoleBinding', 'b', 'Role', 's', 'z'), 'subjects': [subject(299)]}]
+    chain = '0\t%s\t-\t-\t-\t-\tRoleBinding/z/b\tRole/z/s\tRole/z/s\t1\t1\n' % key('n299', 'x')
+    chain += ''.join('%d\t%s\t-\t%s\t-\trun\tRoleBinding/n%03d/b\tClusterRole/r\tClusterRole/r\t1\t1\n'
+                     % (299 - i, key('n%03d' % i, 'x'), key('n%03d' % (i + 1), 'x'), i + 1) for i in reversed(range(299)))
+    expect('the same backwards', ['who-can', '--indirect', '-n', 'z', 'get', 'pods'], 0, chain.encode(), given=export(runs, *items, *sees))
 
     names = ['a%04d' % i for i in range(2000)]
     accounts = [{'apiVersion': 'v1', 'kind': 'ServiceAccount', 'metadata': {'namespace': 'dev', 'name': name}} for name in names]
@@ -593,11 +654,17 @@ def long_paths():
     lines = ['1\t%s\t-\tu:alice\t-\ttoken\tClusterRoleBinding/b\tClusterRole/t\tClusterRole/t\t1\t1\n' % key('dev', 'a0007')]
     lines += ['2\t%s\t-\t%s\t-\trun\tClusterRoleBinding/c\tClusterRole/r\tClusterRole/r\t1\t1\n' % (key('dev', name), key('dev', 'a0007'))
               for name in names if name != 'a0007']
-    expect('two thousand accounts that take over each other', ['paths', 'u:alice'], 0, ''.join(lines).encode(),
-           given=export(runs, token, all_run, binding('ClusterRoleBinding', 'b', 'ClusterRole', 't'), *accounts))
+    items = [runs, token, all_run, binding('ClusterRoleBinding', 'b', 'ClusterRole', 't'), *accounts]
+    expect('two thousand accounts that take over each other', ['paths', 'u:alice'], 0, ''.join(lines).encode(), given=export(*items))
+    sees = [role('z', 's', [PODS]), {**binding('RoleBinding', 'b', 'Role', 's', 'z'), 'subjects': [{'kind': 'ServiceAccount', 'namespace': 'dev', 'name': 'a0007'}]}]
+    by_run = '1\t%s\t-\t' + key('dev', 'a0007') + '\t-\trun\tClusterRoleBinding/c\tClusterRole/r\tClusterRole/r\t1\t1\n'
+    lines = ['0\t%s\t-\t-\t-\t-\tRoleBinding/z/b\tRole/z/s\tRole/z/s\t1\t1\n' % key('dev', 'a0007'), by_run % 'g:system:serviceaccounts',
+             '1\tu:alice\t-\t%s\t-\ttoken\tClusterRoleBinding/b\tClusterRole/t\tClusterRole/t\t1\t1\n' % key('dev', 'a0007')]
+    lines += [by_run % key('dev', name) for name in names if name != 'a0007']
+    expect('whoever comes to what one of them may do', ['who-can', '--indirect', '-n', 'z', 'get', 'pods'], 0, ''.join(lines).encode(), given=export(*items, *sees))
 
 
 if __name__ == '__main__':
     sys.exit(tested(streams, help_and_usage, full_disk, little_memory, rows, matrix_streams, universe_streams, rules_streams, lint_streams,
-                    powers_streams, paths_streams, limits, universe_limits, ring, long_paths, transcripts, links_and_heads, spaced_bindings, loop_of_pages,
+                    powers_streams, paths_streams, ways_streams, limits, universe_limits, ring, long_paths, transcripts, links_and_heads, spaced_bindings, loop_of_pages,
                     example_cluster))

@@ -388,6 +388,10 @@ def of_words():
     yield 'rbacaudit can-i --as=system:serviceaccount:shop:ci -q get ', []
     yield 'rbacaudit can-i -Aqn shop --', ['--as', '--groups', '--group', '--in-namespace', '--subresource', '--why', '--help']
     yield 'rbacaudit who-can -- -', []
+    yield 'rbacaudit who-can --in', ['--in-namespace', '--indirect']
+    yield 'rbacaudit who-can --indirect --steps e', ['exec', 'escalate']
+    yield 'rbacaudit who-can --indirect --steps run,exec ', VERBS
+    yield 'rbacaudit who-can --steps=run get pods --indirect --s', ['--subresource']
     yield 'rbacaudit rules ', []
     yield 'rbacaudit rules -n shop --groups a,b ', []
     yield 'rbacaudit rules u:system:serviceaccount:shop:ci -An shop --', ['--groups', '--group', '--help']
@@ -409,6 +413,8 @@ OF_FILES = {
     'rbacaudit can-i get pods ': {'a.json', 'b.json', 'sub'},
     'rbacaudit who-can --subresource log get pods a.json ': {'a.json', 'b.json', 'sub'},
     'rbacaudit who-can get pods a': {'a.json'},
+    'rbacaudit who-can --indirect --steps run get pods ': {'a.json', 'b.json', 'sub'},
+    'rbacaudit who-can --steps=run,exec delete nodes --indirect a': {'a.json'},
     'rbacaudit rules g:dev ': {'a.json', 'b.json', 'sub'},
     'rbacaudit rules --groups dev u:system:serviceaccount:shop:ci a': {'a.json'},
     'rbacaudit paths --steps run u:kim ': {'a.json', 'b.json', 'sub'},

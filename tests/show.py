@@ -1,6 +1,6 @@
 """rbacaudit-show: lines of each command as a table, as JSON and as names, under each awk that there is.
 
-Tables and objects are written by hand from docs/FORMATS.md. Lines of the built program over examples/ are read
+Lines with their tables and objects are those of tests/show_lines.py. Lines of the built program over examples/ are read
 once more here, by the rules of that document, and compared with the objects. What is skipped, since this
 machine lacks an awk, a shell or a renderer, stands in the last line but one. The last line is
 `N passed, M failed`.
@@ -26,234 +26,17 @@ import unicodedata
 from common import PROGRAM, TOP, checked, skipped, tested
 from plugin_terminal import AWKS
 from shells import renders
+from show_lines import (ANSWER, ANSWER_HEADLESS, ANSWER_TABLE, COMMANDS, DIFF, DIFF_TABLE, FILES, HOLDERS, HOLDERS_TABLE, LINT, MATRIX, MATRIX_80,
+                        MATRIX_TABLE, OF_COUNTS, OF_ROW, OPS_WORDS, OPS_WORDS_44, PATHS, POWERS, ROWS, RULES, SHOP_WORDS, WAYS, WHY, WHY_TABLE, WORDS,
+                        tabs)
 from written import contents, same
+from written import steps as steps_of_behaviour
 
 SHOW = os.path.join(TOP, 'plugin', 'rbacaudit-show')
 EXAMPLES = os.path.join(TOP, 'examples')
 MEMORY = 60_000  # kilobytes that a million lines may take
 EXPECTED = ('no command of rbacaudit prints this: expected lines of can-i, who-can, rules, matrix, lint, powers, paths or diff; '
             'rbacaudit-show --help lists their fields')
-
-
-def tabs(text):
-    """Lines that are written with blanks."""
-    return ''.join(line.strip().replace(' ', '\t') + '\n' for line in text.strip().splitlines())
-
-
-# ---- lines of each command, their table and their objects
-
-ANSWER = 'yes\n' + tabs('RoleBinding/shop/readers ClusterRole/shop-view ClusterRole/shop-pods 1 12')
-ANSWER_TABLE = '''\
-yes
-BINDING                   ROLE                   SOURCE                 RULE  SUBJECT
-RoleBinding/shop/readers  ClusterRole/shop-view  ClusterRole/shop-pods  1     12
-'''
-ANSWER_HEADLESS = 'RoleBinding/shop/readers  ClusterRole/shop-view  ClusterRole/shop-pods  1  12\n'
-# (85 columns: BINDING of 24 gives three, and then the first two of those that have 21 give one each)
-ANSWER_80 = '''\
-yes
-BINDING               ROLE                  SOURCE                 RULE  SUBJECT
-RoleBinding/shop/re…  ClusterRole/shop-vi…  ClusterRole/shop-pods  1     12
-'''
-HOLDERS = tabs('''
-g:system:masters ClusterRoleBinding/cluster-admin
-u:kim RoleBinding/shop/kim''')
-HOLDERS_TABLE = '''\
-WHO               BINDING
-g:system:masters  ClusterRoleBinding/cluster-admin
-u:kim             RoleBinding/shop/kim
-'''
-WHY = tabs('u:kim RoleBinding/shop/kim Role/shop/ops Role/shop/ops 3 1')
-WHY_TABLE = '''\
-WHO    BINDING               ROLE           SOURCE         RULE  SUBJECT
-u:kim  RoleBinding/shop/kim  Role/shop/ops  Role/shop/ops  3     1
-'''
-# Lines of rules, of which two have the rules of these lines.
-WORDS = tabs(r'''
-ClusterRoleBinding/m ClusterRole/shop-view ClusterRole/shop-pods 1 2 [get,list] [-] [pods,pods/log] [] []
-ClusterRoleBinding/m ClusterRole/shop-view ClusterRole/shop-pods 2 2 [no] [-] [no] [] []
-RoleBinding/x/y Role/shop/ops Role/shop/ops 3 9 [*] [apps,-] [deployments,a\x2cb,WORD] [x,y] [/metrics]
-RoleBinding/x/y Role/shop/gone Role/shop/ops 3''').replace('WORD', '\u202e a  NAMES')
-SHOP_WORDS = '    VERBS get,list  GROUPS -  RESOURCES pods,pods/log\n'
-# (the pipe gets the bytes; and a blank behind another is an escape, so that no word looks like a list)
-OPS_WORDS = '    VERBS *  GROUPS apps,-  RESOURCES deployments,a\\x2cb,\u202e a \\x20NAMES  NAMES x,y  URLS /metrics\n'
-OPS_WORDS_44 = '''\
-    VERBS *  GROUPS apps,-
-      RESOURCES deployments,a\\x2cb,
-      \\xe2\\x80\\xae a \\x20NAMES  NAMES x,y
-      URLS /metrics
-'''
-RULES = tabs(r'''
-RoleBinding/shop/ci Role/shop/ci Role/shop/ci 1 1 [get,list] [apps,-] [deployments] [] []
-ClusterRoleBinding/m ClusterRole/m ClusterRole/m 10 2 [get] [] [] [] [/metrics,/a\x2cb]''')
-RULES_TABLE = r'''BINDING               ROLE           SOURCE         RULE  SUBJECT  VERBS       GROUPS    RESOURCES      NAMES  URLS
-RoleBinding/shop/ci   Role/shop/ci   Role/shop/ci   1     1        [get,list]  [apps,-]  [deployments]  []     []
-ClusterRoleBinding/m  ClusterRole/m  ClusterRole/m  10    2        [get]       []        []             []     [/metrics,/a\x2cb]
-'''
-# (129 columns, of which blanks take 18: 111 become 62. All that have more than 7 have 7 at last, which is 3 too many: the first three give one)
-RULES_80 = '''\
-BINDI…  ROLE    SOURCE  RULE  SUBJECT  VERBS    GROUPS   RESOUR…  NAMES  URLS
-RoleB…  Role/…  Role/…  1     1        [get,l…  [apps,…  [deplo…  []     []
-Clust…  Clust…  Clust…  10    2        [get]    []       []       []     [/metr…
-'''
-ROWS = tabs('''
-g:devs - get - /metrics - ClusterRoleBinding/scrapers
-u:ann dev update - configmaps app RoleBinding/dev/ann
-u:system:serviceaccount:dev:ci dev patch apps deployments - RoleBinding/dev/ci''')
-MATRIX = ROWS + 'end\n'
-MATRIX_TABLE = '''\
-WHO                             NAMESPACE  VERB    GROUP  RESOURCE     NAME  BINDING
-g:devs                          -          get     -      /metrics     -     ClusterRoleBinding/scrapers
-u:ann                           dev        update  -      configmaps   app   RoleBinding/dev/ann
-u:system:serviceaccount:dev:ci  dev        patch   apps   deployments  -     RoleBinding/dev/ci
-end
-'''
-# (104 columns: WHO of 30 and BINDING of 27 give 24, so they have 16 and 17)
-MATRIX_80 = '''\
-WHO               NAMESPACE  VERB    GROUP  RESOURCE     NAME  BINDING
-g:devs            -          get     -      /metrics     -     ClusterRoleBindi…
-u:ann             dev        update  -      configmaps   app   RoleBinding/dev/…
-u:system:servic…  dev        patch   apps   deployments  -     RoleBinding/dev/…
-end
-'''
-LINT = tabs(r'''
-L1 dangling-role RoleBinding/shop/old - Role/shop/gone
-L3 redundant-rule Role/shop/ops 2 1
-L5 account-without-namespace ClusterRoleBinding/m 1 7
-L6 stale-aggregate ClusterRole/view - -
-L7 replaced-object Namespace/shop - 2''')
-LINT_TABLE = '''\
-CODE  NAME                       OBJECT                PLACE  DETAIL
-L1    dangling-role              RoleBinding/shop/old  -      Role/shop/gone
-L3    redundant-rule             Role/shop/ops         2      1
-L5    account-without-namespace  ClusterRoleBinding/m  1      7
-L6    stale-aggregate            ClusterRole/view      -      -
-L7    replaced-object            Namespace/shop        -      2
-'''
-FILES = tabs(r'L2 unused-role ClusterRole/old - - rbac/roles\\.yaml')
-FILES_TABLE = r'''CODE  NAME         OBJECT           PLACE  DETAIL  FILE
-L2    unused-role  ClusterRole/old  -      -       rbac/roles\\.yaml
-'''
-POWERS = tabs(r'''
-exec g:devs shop RoleBinding/shop/devs ClusterRole/edit ClusterRole/edit-exec 2 1
-secrets u:bob * ClusterRoleBinding/bobs ClusterRole/ops ClusterRole/ops 10 3
-secrets u:eve \x2a RoleBinding/*/eve Role/*/r Role/*/r 1 1''')
-POWERS_TABLE = r'''STEP     WHO     WHERE  BINDING                  ROLE              SOURCE                 RULE  SUBJECT
-exec     g:devs  shop   RoleBinding/shop/devs    ClusterRole/edit  ClusterRole/edit-exec  2     1
-secrets  u:bob   *      ClusterRoleBinding/bobs  ClusterRole/ops   ClusterRole/ops        10    3
-secrets  u:eve   \x2a   RoleBinding/*/eve        Role/*/r          Role/*/r               1     1
-'''
-# (103 columns: BINDING of 23 gives two, then BINDING and SOURCE five each, then these and ROLE of 16 give four, four and three)
-POWERS_80 = r'''STEP     WHO     WHERE  BINDING       ROLE          SOURCE         RULE  SUBJECT
-exec     g:devs  shop   RoleBinding…  ClusterRole…  ClusterRole/…  2     1
-secrets  u:bob   *      ClusterRole…  ClusterRole…  ClusterRole/…  10    3
-secrets  u:eve   \x2a   RoleBinding…  Role/*/r      Role/*/r       1     1
-'''
-# From a group, from everything in a namespace that is called *, from a role in a namespace, and from a user.
-PATHS = tabs(r'''
-1 * \x2a g:devs - bind RoleBinding/*/devs Role/*/lead Role/*/lead 2 1
-1 ClusterRole/edit shop g:devs - bind ClusterRoleBinding/devs ClusterRole/binds ClusterRole/binds 10 3
-2 u:system:serviceaccount:*:ci - * \x2a impersonate - - - - -
-2 u:system:serviceaccount:shop:ci - ClusterRole/edit shop run - ClusterRole/edit ClusterRole/edit-run 1 -
-3 * * u:system:serviceaccount:shop:ci - escalate ClusterRoleBinding/ci ClusterRole/ci ClusterRole/ci 1 1''')
-PATHS_TABLE = r'''STEPS  TO                               WHERE  FROM                             WHERE  STEP         BINDING                  ROLE               SOURCE                RULE  SUBJECT
-1      *                                \x2a   g:devs                           -      bind         RoleBinding/*/devs       Role/*/lead        Role/*/lead           2     1
-1      ClusterRole/edit                 shop   g:devs                           -      bind         ClusterRoleBinding/devs  ClusterRole/binds  ClusterRole/binds     10    3
-2      u:system:serviceaccount:*:ci     -      *                                \x2a   impersonate  -                        -                  -                     -     -
-2      u:system:serviceaccount:shop:ci  -      ClusterRole/edit                 shop   run          -                        ClusterRole/edit   ClusterRole/edit-run  1     -
-3      *                                *      u:system:serviceaccount:shop:ci  -      escalate     ClusterRoleBinding/ci    ClusterRole/ci     ClusterRole/ci        1     1
-'''
-# (179 columns, of which blanks take 20: 159 become 60. All that have more than 7 have 7 at last, which is 8 too many: the first four give two)
-PATHS_80 = r'''STEPS  TO     WHERE  FROM   WHERE  STEP   BIND…  ROLE     SOURCE   RULE  SUBJECT
-1      *      \x2a   g:de…  -      bind   Role…  Role/*…  Role/*…  2     1
-1      Clus…  shop   g:de…  -      bind   Clus…  Cluste…  Cluste…  10    3
-2      u:sy…  -      *      \x2a   impe…  -      -        -        -     -
-2      u:sy…  -      Clus…  shop   run    -      Cluste…  Cluste…  1     -
-3      *      *      u:sy…  -      esca…  Clus…  Cluste…  Cluste…  1     1
-'''
-DIFF = tabs(r'''
-+ g:devs shop list - secrets * RoleBinding/shop/devs
-- u:bob * * apps * \x2a ClusterRoleBinding/bobs
-- u:bob - get - /healthz/* - ClusterRoleBinding/bobs''')
-DIFF_TABLE = r'''CHANGE  WHO     NAMESPACE  VERB  GROUP  RESOURCE    NAME  BINDING
-+       g:devs  shop       list  -      secrets     *     RoleBinding/shop/devs
--       u:bob   *          *     apps   *           \x2a  ClusterRoleBinding/bobs
--       u:bob   -          get   -      /healthz/*  -     ClusterRoleBinding/bobs
-'''
-# (81 columns)
-DIFF_80 = DIFF_TABLE.replace('bobs', 'bo…')
-SUMMARY = tabs('''
-g:devs shop RoleBinding/shop/devs 2 0 [secrets] []
-u:bob - ClusterRoleBinding/bobs 0 1 [] []
-u:\\x2da * ClusterRoleBinding/bobs 7 12 [exec] [run,exec]
-total - - 9 13 [secrets,exec] [run,exec]''')
-SUMMARY_TABLE = r'''WHO      NAMESPACE  BINDING                  GAINED  LOST  POWERS_GAINED   POWERS_LOST
-g:devs   shop       RoleBinding/shop/devs    2       0     [secrets]       []
-u:bob    -          ClusterRoleBinding/bobs  0       1     []              []
-u:\x2da  *          ClusterRoleBinding/bobs  7       12    [exec]          [run,exec]
-total    -          -                        9       13    [secrets,exec]  [run,exec]
-'''
-# (86 columns: BINDING of 23 gives six)
-SUMMARY_80 = SUMMARY_TABLE.replace('BINDING       ', 'BINDING ').replace('RoleBinding/shop/devs  ', 'RoleBinding/shop…').replace('ClusterRoleBinding/bobs', 'ClusterRoleBindi…')
-SUMMARY_80 = SUMMARY_80.replace('-          -                      ', '-          -                ').replace('…    2', '…  2')
-
-
-def objects(keys, *values):
-    return [dict(zip(keys.split(), line)) for line in values]
-
-
-OF_WHY = 'binding role source rule subject'
-OF_ROW = 'who namespace verb group resource name binding'
-OF_COUNTS = 'gained lost powers_gained powers_lost'
-OF_FINDING = 'code name object place detail'
-COMMANDS = {
-    'can-i --why': (ANSWER, ANSWER_TABLE, ANSWER_80, [{'allowed': True}, *objects(
-        OF_WHY, ('RoleBinding/shop/readers', 'ClusterRole/shop-view', 'ClusterRole/shop-pods', 1, 12))],
-                    ['RoleBinding/shop/readers']),
-    'can-i': ('no\n', 'no\n', 'no\n', [{'allowed': False}], []),
-    'who-can': (HOLDERS, HOLDERS_TABLE, HOLDERS_TABLE, objects(
-        'who binding', ('g:system:masters', 'ClusterRoleBinding/cluster-admin'), ('u:kim', 'RoleBinding/shop/kim')),
-                ['g:system:masters', 'u:kim']),
-    'who-can --why': (WHY, WHY_TABLE, WHY_TABLE, objects(
-        'who ' + OF_WHY, ('u:kim', 'RoleBinding/shop/kim', 'Role/shop/ops', 'Role/shop/ops', 3, 1)), ['u:kim']),
-    'rules': (RULES, RULES_TABLE, RULES_80, objects(
-        OF_WHY + ' verbs api_groups resources resource_names non_resource_urls',
-        ('RoleBinding/shop/ci', 'Role/shop/ci', 'Role/shop/ci', 1, 1, ['get', 'list'], ['apps', ''], ['deployments'], [], []),
-        ('ClusterRoleBinding/m', 'ClusterRole/m', 'ClusterRole/m', 10, 2, ['get'], [], [], [], ['/metrics', '/a,b'])),
-              ['RoleBinding/shop/ci', 'ClusterRoleBinding/m']),
-    'matrix': (MATRIX, MATRIX_TABLE, MATRIX_80, [*objects(
-        OF_ROW, ('g:devs', '', 'get', '', '/metrics', '', 'ClusterRoleBinding/scrapers'),
-        ('u:ann', 'dev', 'update', '', 'configmaps', 'app', 'RoleBinding/dev/ann'),
-        ('u:system:serviceaccount:dev:ci', 'dev', 'patch', 'apps', 'deployments', '', 'RoleBinding/dev/ci')), {'end': True}],
-               ['g:devs', 'u:ann', 'u:system:serviceaccount:dev:ci']),
-    'lint': (LINT, LINT_TABLE, LINT_TABLE, objects(
-        OF_FINDING, ('L1', 'dangling-role', 'RoleBinding/shop/old', None, 'Role/shop/gone'),
-        ('L3', 'redundant-rule', 'Role/shop/ops', 2, 1), ('L5', 'account-without-namespace', 'ClusterRoleBinding/m', 1, '7'),
-        ('L6', 'stale-aggregate', 'ClusterRole/view', None, ''), ('L7', 'replaced-object', 'Namespace/shop', None, 2)),
-             ['RoleBinding/shop/old', 'Role/shop/ops', 'ClusterRoleBinding/m', 'ClusterRole/view', 'Namespace/shop']),
-    'lint of manifests': (FILES, FILES_TABLE, FILES_TABLE, objects(
-        OF_FINDING + ' file', ('L2', 'unused-role', 'ClusterRole/old', None, '', 'rbac/roles\\.yaml')), ['ClusterRole/old']),
-    'powers': (POWERS, POWERS_TABLE, POWERS_80, objects(
-        'step who where ' + OF_WHY, ('exec', 'g:devs', 'shop', 'RoleBinding/shop/devs', 'ClusterRole/edit', 'ClusterRole/edit-exec', 2, 1),
-        ('secrets', 'u:bob', None, 'ClusterRoleBinding/bobs', 'ClusterRole/ops', 'ClusterRole/ops', 10, 3),
-        ('secrets', 'u:eve', '*', 'RoleBinding/*/eve', 'Role/*/r', 'Role/*/r', 1, 1)), ['g:devs', 'u:bob', 'u:eve']),
-    'paths': (PATHS, PATHS_TABLE, PATHS_80, objects(
-        'steps who where from from_where step ' + OF_WHY,
-        (1, '*', '*', 'g:devs', '', 'bind', 'RoleBinding/*/devs', 'Role/*/lead', 'Role/*/lead', 2, 1),
-        (1, 'ClusterRole/edit', 'shop', 'g:devs', '', 'bind', 'ClusterRoleBinding/devs', 'ClusterRole/binds', 'ClusterRole/binds', 10, 3),
-        (2, 'u:system:serviceaccount:*:ci', '', '*', '*', 'impersonate', '', '', '', None, None),
-        (2, 'u:system:serviceaccount:shop:ci', '', 'ClusterRole/edit', 'shop', 'run', '', 'ClusterRole/edit', 'ClusterRole/edit-run', 1, None),
-        (3, '*', None, 'u:system:serviceaccount:shop:ci', '', 'escalate', 'ClusterRoleBinding/ci', 'ClusterRole/ci', 'ClusterRole/ci', 1, 1)),
-              ['*', 'ClusterRole/edit', 'u:system:serviceaccount:*:ci', 'u:system:serviceaccount:shop:ci', '*']),
-    'diff': (DIFF, DIFF_TABLE, DIFF_80, objects(
-        'change ' + OF_ROW, ('+', 'g:devs', 'shop', 'list', '', 'secrets', None, 'RoleBinding/shop/devs'),
-        ('-', 'u:bob', None, '*', 'apps', '*', '*', 'ClusterRoleBinding/bobs'),
-        ('-', 'u:bob', '', 'get', '', '/healthz/*', '', 'ClusterRoleBinding/bobs')), ['g:devs', 'u:bob']),
-    'diff --summary': (SUMMARY, SUMMARY_TABLE, SUMMARY_80, [*objects(
-        'who namespace binding ' + OF_COUNTS, ('g:devs', 'shop', 'RoleBinding/shop/devs', 2, 0, ['secrets'], []),
-        ('u:bob', '', 'ClusterRoleBinding/bobs', 0, 1, [], []), ('u:-a', None, 'ClusterRoleBinding/bobs', 7, 12, ['exec'], ['run', 'exec'])),
-        *objects('total ' + OF_COUNTS, (True, 9, 13, ['secrets', 'exec'], ['run', 'exec']))], ['g:devs', 'u:bob', 'u:\\x2da']),
-}
 
 
 # ---- the filter, under an awk
@@ -338,8 +121,8 @@ def commands(it):
 
 
 # Commands whose rows have colors: the codes of each row.
-COLORS = {'can-i --why': ['', ''], 'who-can': ['', ''], 'rules': ['', ''], 'lint': [''] * 5, 'powers': [''] * 3, 'paths': [''] * 5, 'diff': ['1;32', '31', '31'], 'matrix': ['', '', '1', ''],
-          'diff --summary': ['1;32', '31', '1', '1']}
+COLORS = {'can-i --why': ['', ''], 'who-can': ['', ''], 'rules': ['', ''], 'lint': [''] * 5, 'powers': [''] * 3, 'paths': [''] * 5, 'who-can --indirect': [''] * 7,
+          'diff': ['1;32', '31', '31'], 'matrix': ['', '', '1', ''], 'diff --summary': ['1;32', '31', '1', '1']}
 
 
 def colored(table, codes):
@@ -462,6 +245,14 @@ def path_of(name):
     return '\t'.join(('2', '*', place, role, place, 'escalate', '-', role, source, '3', '-')) + '\n'
 
 
+def ways_of(name):
+    """Lines of who-can --indirect with it: of a role of a namespace, and of one that binds everything there."""
+    place = '\\x2a' if name == '*' else field_of(name)
+    role, other = field_of('Role/%s/r' % name), field_of('Role/%s/s' % name)
+    return ''.join('\t'.join(fields) + '\n' for fields in (('0', role, place, '-', '-', '-', '-', role, role, '3', '-'),
+                                                           ('1', other, place, '*', place, 'bind', '-', other, role, '2', '-')))
+
+
 def texts(it):
     """Names of strangers come back from JSON as they were, and their objects are ASCII but for what is to be seen."""
     lines, wanted = zip(*strangers())
@@ -488,6 +279,10 @@ def texts(it):
     given = ''.join(path_of(name) for name in NAMES if name)
     it.same('in paths', [tuple(line.values()) for line in objects_in(it.run(given, '-o', 'json')[1])], [
         (2, '*', name, 'Role/%s/r' % name, name, 'escalate', '', 'Role/%s/r' % name, 'Role/%s/s' % name, 3, None) for name in NAMES if name])
+    given = ''.join(ways_of(name) for name in NAMES if name)
+    it.same('in ways', [tuple(line.values()) for line in objects_in(it.run(given, '-o', 'json')[1])], [
+        line for name in NAMES if name for role, other in [('Role/%s/r' % name, 'Role/%s/s' % name)] for line in (
+            (0, role, name, '', '', '', '', role, role, 3, None), (1, other, name, '*', name, 'bind', '', other, role, 2, None))])
     it.same('every byte as an escape', objects_in(it.run(''.join(
         'u:\\x%02x\tClusterRoleBinding/b\n' % at for at in range(128)), '-o', 'json')[1]),
             [{'who': 'u:' + chr(at), 'binding': 'ClusterRoleBinding/b'} for at in range(128)])
@@ -579,6 +374,57 @@ def look_ahead(it):
             ['WHO' + ' ' * 399 + 'BINDING', 'u:%s  RoleBinding/a/b' % ('m' * 1000), 'u:b' + ' ' * 399 + 'RoleBinding/a/b'])
 
 
+# ---- which of two commands
+
+GRANT = 'ClusterRoleBinding/b ClusterRole/r ClusterRole/r 1 1'
+CI, BOT = 'u:system:serviceaccount:dev:ci', 'u:system:serviceaccount:dev:bot'
+# Lines that only one of the two can print.
+OF_PATHS = ['1 %s - u:kim - run %s' % (CI, GRANT), '1 %s - ClusterRole/r * token - ClusterRole/r ClusterRole/r 1 -' % CI, '2 %s - * dev exec - - - - -' % CI,
+            '1 ClusterRole/s dev ClusterRole/r dev bind - ClusterRole/r ClusterRole/r 1 -', '1 * dev u:kim - escalate ' + GRANT, '3 * * u:kim - webhooks ' + GRANT]
+OF_WAYS = ['1 u:kim - %s - run %s' % (CI, GRANT), '1 ClusterRole/r * %s - token - ClusterRole/r ClusterRole/r 1 -' % CI, '2 * dev %s - exec - - - - -' % CI,
+           '1 ClusterRole/r dev ClusterRole/s dev bind - ClusterRole/r ClusterRole/r 1 -', '1 u:kim - * dev escalate ' + GRANT, '3 u:kim - * * webhooks ' + GRANT,
+           '0 u:kim - - - - ' + GRANT, '0 * * - - - - - - - -']
+# What each step takes over, and where.
+OVER = {**dict.fromkeys(('token', 'run', 'exec', 'secrets', 'nodes'), CI + ' -'), **dict.fromkeys(('escalate', 'certificates', 'webhooks'), '* *'),
+        'impersonate': 'g:ops -', 'bind': 'ClusterRole/s dev'}
+# Lines that both can.
+OF_BOTH = ['1 u:kim - g:ops - impersonate ' + GRANT, '1 %s - %s - secrets %s' % (CI, BOT, GRANT)]
+
+
+def no_ways():
+    """Lines that look like one of who-can --indirect, and are none."""
+    by_itself, taker = '0 u:kim - - - - ' + GRANT, '1 u:kim - * dev bind ' + GRANT
+    for name, line, old, new in (
+            ('somebody by no binding', by_itself, 'ClusterRoleBinding/b', '-'), ('somebody by no rule', by_itself, 'r 1', 'r -'), ('0 with a step', by_itself, '- Cluster', 'run Cluster'),
+            ('0 with a node after it', by_itself, '- - - -', '- u:max - -'), ('0 with a place after it', by_itself, '- - - -', '- - * -'), ('nobody', by_itself, 'u:kim', '-'),
+            ('somebody in a namespace', by_itself, 'u:kim -', 'u:kim dev'), ('a number with a zero', taker, '1 u', '01 u'), ('no node after it', taker, '* dev', '- -'),
+            ('everything nowhere', taker, '* dev', '* -'), ('somebody who is bound', taker, '* dev', 'u:max -'), ('no step', taker, 'bind', '-'), ('another step', taker, 'bind', 'run'),
+            ('a token of everything', taker, 'bind', 'token'), ('a role that is escalated', taker, '* dev bind', 'ClusterRole/r dev escalate'),
+            ('a role by a binding', taker, 'u:kim -', 'ClusterRole/r dev'), ('everything by a role', '0 * dev - - - - - - - -', '- - - - -', '- - - - ClusterRole/r'),
+            ('a role by another', '0 ClusterRole/r * - - - - ClusterRole/r ClusterRole/r 1 -', 'ClusterRole/r ClusterRole/r', 'ClusterRole/s ClusterRole/r'),
+            ('a token of a user', '1 u:kim - %s - token %s' % (CI, GRANT), CI, 'u:ci')):
+        yield 'a way: ' + name, line.replace(old, new, 1).replace(' ', '\t')
+
+
+def told_apart(it):
+    """Lines of paths and of who-can --indirect have as many fields: who takes over whom tells them apart, and where both fit an option does."""
+    heads = {'paths': 'STEPS TO WHERE FROM WHERE STEP', 'who-can --indirect': 'STEPS WHO WHERE TO WHERE STEP'}
+    it.same('what each step takes over', {*OVER}, {line[0] for line in steps_of_behaviour()})
+    for lines, command, words in ((['1 %s u:kim - %s %s' % (over, step, GRANT) for step, over in OVER.items()], 'paths', []),
+                                  (['1 u:kim - %s %s %s' % (over, step, GRANT) for step, over in OVER.items()], 'who-can --indirect', ['--indirect']),
+                                  (OF_PATHS, 'paths', []), (OF_WAYS, 'who-can --indirect', []), (OF_WAYS, 'who-can --indirect', ['--indirect']),
+                                  (OF_BOTH, 'paths', []), (OF_BOTH, 'who-can --indirect', ['--indirect'])):
+        for line in lines:
+            status, out, err = it.run(tabs(line), *words)
+            it.same('%s is of %s %s' % (line, command, words), (status, out.decode().split()[:6], err), (0, heads[command].split(), ''))
+    for before, line, command in ((OF_WAYS[-2], OF_PATHS[0], 'who-can --indirect'), (OF_BOTH[0], OF_WAYS[0], 'paths'), (OF_PATHS[0], OF_WAYS[-1], 'paths')):
+        said = 'rbacaudit-show: standard input line 2: no line of %s as before: expected 11 fields: %s BINDING ROLE SOURCE RULE SUBJECT\n' % (command, heads[command])
+        it.same('%s after %s' % (line, before), it.run(tabs(before + '\n' + line), '-o', 'json')[::2], (2, said))
+    for lines, command in ((WAYS, 'who-can --indirect'), (ROWS, 'matrix'), (HOLDERS, 'who-can')):
+        it.same('%s with --indirect' % command, it.run(lines, '--indirect'), it.run(lines))
+    it.same('paths alone with --indirect', it.run(tabs(OF_PATHS[0]), '--indirect'), (2, b'', 'rbacaudit-show: standard input line 1: %s\n' % EXPECTED))
+
+
 # ---- what is refused
 
 def refusals(it):
@@ -601,7 +447,7 @@ def refusals(it):
                        ('a path to a Role without a namespace', PATHS.splitlines()[1].replace('ClusterRole/edit', 'Role/edit')),
                        ('a path by more than no role', PATHS.splitlines()[2].replace('-\t-\t-', '-\t-x\t-', 1)),
                        ('a path by a binding without a name', PATHS.splitlines()[1].replace('Binding/devs', 'Binding/')), ('a path by half a rule', PATHS.splitlines()[0][:-1] + '--'),
-                       ('no token', 'next\ta b'), ('next without a token', 'next')):
+                       *no_ways(), ('no token', 'next\ta b'), ('next without a token', 'next')):
         for words in ([], ['-o', 'json'], ['-o', 'name']):
             it.same('refused %s: %s' % (words, name), it.run(line + '\n', *words), (2, b'', 'rbacaudit-show: standard input line 1: %s\n' % EXPECTED))
     it.same('refused: a NUL', it.run('u:k\0\tRoleBinding/a/b\x01\n')[::2], (2, 'rbacaudit-show: standard input line 1: %s\n' % EXPECTED))
@@ -696,7 +542,8 @@ SHOP = ['shop.json']
 ASKED = ([*'can-i --as kim@example.com --groups shop-developers -n shop --why list pods'.split(), *SHOP], [*'can-i --as kim get pods'.split(), *SHOP],
          [*'who-can -n shop update deployments.apps'.split(), *SHOP], [*'who-can -n shop --any-name --why update configmaps'.split(), *SHOP],
          ['rules', 'u:system:serviceaccount:shop:ci', *SHOP], ['matrix', *SHOP, 'shop-universe.json'], ['matrix', '--limit', '3', *SHOP, 'shop-universe.json'],
-         ['lint', 'lint.json'], ['powers', *SHOP], ['paths', 'u:dana@example.com', *SHOP], ['diff', '--before', *SHOP, '--after', *SHOP, 'shop-change.json'])
+         ['lint', 'lint.json'], ['powers', *SHOP], ['paths', 'u:dana@example.com', *SHOP],
+         [*'who-can --indirect -n shop update deployments.apps'.split(), *SHOP], ['diff', '--before', *SHOP, '--after', *SHOP, 'shop-change.json'])
 
 
 def text_of(field):
@@ -737,12 +584,11 @@ def answers():
 
 
 def worked():
-    """The lines of the worked examples (rows.json, and the powers and paths of rows_paths.json)."""
+    """The lines of the worked examples (rows.json and rows_paths.json)."""
     with open(os.path.join(TOP, 'tests', 'rows.json'), encoding='utf-8') as file:
         groups = json.load(file)
     with open(os.path.join(TOP, 'tests', 'rows_paths.json'), encoding='utf-8') as file:
-        examples = (example for group in json.load(file).values() for example in group)
-        groups['paths'] = [{'asks': [it for it in example['asks'] if not it[0].startswith('who-can')]} for example in examples]
+        groups['paths'] = [example for group in json.load(file).values() for example in group]
     wrong, count = [], 0
     for example in (example for group in groups.values() for example in group):
         asks = [(it[0], it[2]) for it in example.get('asks', ()) if len(it) == 3 and not it[0].startswith('universe')]
@@ -761,7 +607,7 @@ def told(*words, **how):
     return ended.returncode, ended.stdout.decode()
 
 
-OPTIONS = ['-o', '--output', '--no-headers', '--color', '--rules', '-h', '--help', '-V', '--version']
+OPTIONS = ['-o', '--output', '--no-headers', '--color', '--rules', '--indirect', '-h', '--help', '-V', '--version']
 
 
 def helped():
@@ -781,12 +627,13 @@ def helped():
          [('o', 'output', 'how lines are shown'), ('h', 'help', 'print help'), ('V', 'version', 'print version')])
     same('zsh: the options', re.findall(r"\{(-\w),(--\w+)=?\}'\[(.*?)\]", zsh),
          [('-h', '--help', 'print help'), ('-V', '--version', 'print version'), ('-o', '--output', 'how lines are shown')])
-    same('fish: the long options', re.findall(r"-l (\S+)", fish), ['output', 'no-headers', 'color', 'rules', 'help', 'version'])
-    same('zsh: the long options', re.findall(r"'(--[\w-]+)=?\[", zsh), ['--no-headers', '--color', '--rules'])
+    same('fish: the long options', re.findall(r"-l (\S+)", fish), ['output', 'no-headers', 'color', 'rules', 'indirect', 'help', 'version'])
+    same('zsh: the long options', re.findall(r"'(--[\w-]+)=?\[", zsh), ['--no-headers', '--color', '--rules', '--indirect'])
     same('fish: the formats', re.findall(r"-a '(.*?)'", fish), ['table wide json name', 'auto always never'])
     same('zsh: the formats', re.findall(r'[A-Z]:\((.*?)\)', zsh), ['table wide json name', 'auto always never'])
     path = os.path.join(TOP, 'completions', 'rbacaudit-show.bash')
-    for line, wanted in (('rbacaudit-show -', '-o --output --no-headers --color --rules -h --help -V --version'), ('rbacaudit-show --o', '--output'), ('rbacaudit-show --color a', 'auto always'), ('rbacaudit-show -o j', 'json'),
+    for line, wanted in (('rbacaudit-show -', '-o --output --no-headers --color --rules --indirect -h --help -V --version'),
+                         ('rbacaudit-show --o', '--output'), ('rbacaudit-show --color a', 'auto always'), ('rbacaudit-show -o j', 'json'),
                          ('rbacaudit-show --output -', ''), ('rbacaudit-show --output t', 'table')):
         script = '. "$0"; COMP_WORDS=(%s); COMP_CWORD=%d; _rbacaudit_show; echo ${COMPREPLY[*]}' % (line, line.count(' '))
         same('bash: %s' % line, told('bash', '-c', script, path), (0, wanted + '\n'))
@@ -846,7 +693,7 @@ def under_each_awk():
                 skipped(words[0], 'rbacaudit-show')
                 continue
             it = Filter(words, room)
-            for part in commands, colors, headless, words_below, remarks, texts, random_texts, no_utf8, seen, look_ahead, refusals, pipes:
+            for part in commands, colors, headless, words_below, remarks, texts, random_texts, no_utf8, seen, look_ahead, told_apart, refusals, pipes:
                 part(it)
 
 

@@ -10,6 +10,7 @@ parts_of() {
         matrix) needed='cluster.json namespaced.json namespaces.json accounts.json api' ;;
         *) needed='cluster.json namespaced.json api' ;;
     esac
+    [ "$indirect" = no ] || needed="$needed accounts.json"
     [ -z "$asked_in" ] || wanted=namespaces.json
     case $needed,$asker in
         *accounts.json*) ;;
@@ -108,8 +109,11 @@ look_for_other() {
             report "the export has the namespace $only alone, and this answer knows no other"
             ;;
         can-i,* | who-can,* | rules,yesno,* | rules,nono,?* | matrix,*,?*)
-            [ -z "$asked_in" ] || [ "$asked_in" = "$only" ] ||
+            if [ -n "$asked_in" ] && [ "$asked_in" != "$only" ]; then
                 "$1" "the export has the namespace $only alone"
+            elif [ "$indirect" = yes ]; then
+                report "the export has the namespace $only alone, and this answer knows no other"
+            fi
             ;;
         *) report "the export has the namespace $only alone, and this answer knows no other" ;;
     esac

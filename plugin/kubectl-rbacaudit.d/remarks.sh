@@ -309,6 +309,7 @@ and this matrix has what they gather"
         who-can00)
             ! has_same_lines || return 0
             differs='has other holders'
+            [ "$indirect" = no ] || differs='has other paths'
             ;;
         rules00)
             ! has_same_lines || return 0

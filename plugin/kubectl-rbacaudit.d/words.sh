@@ -32,6 +32,7 @@ read_word() {
             --all-namespaces) everywhere=yes ;;
             --anywhere) anywhere=yes ;;
             --in-namespace) in_namespace=yes ;;
+            --indirect) indirect=yes ;;
             --once) once=yes ;;
             --why) asks_why=yes ;;
             --*) ;;
