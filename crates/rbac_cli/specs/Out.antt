@@ -88,9 +88,13 @@ rules_text xs = flat_map rule_line xs
 abbrev pub wanted_meant : Option (List ℕ) → Bool → WantedView
 wanted_meant only skip_system = record { only = only; skip_system = skip_system }
 
+-- the line of a finding
+abbrev pub finding_line : Finding → Text
+finding_line f = finding_text f.code f.object f.place f.other
+
 -- a line for each finding, in order
-abbrev pub findings_text : List Finding → List ℕ
-findings_text found = flat_map (λ f. finding_text f.code f.object f.place f.other) found
+abbrev pub findings_text : List Finding → Text
+findings_text found = flat_map finding_line found
 
 -- 1 if anything is found (own)
 abbrev pub findings_status : List Finding → Status

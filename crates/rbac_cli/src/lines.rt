@@ -1,6 +1,6 @@
 //! Lines, printed one after another.
 
-ghost use Rattle.std.specs.Prelude.{◌≡◌, ℕ, [], false, IfOk};
+ghost use Rattle.std.specs.Prelude.{◌≡◌, ◌++◌, ℕ, [], false, IfOk, OnOk};
 ghost use Rattle.rbac_terms.specs.Text.{Text};
 ghost use Rattle.rbac_question.specs.declared.command.Action.{Action};
 ghost use Rattle.rbac_cli.specs.Out.{Answers};
@@ -12,6 +12,7 @@ use crate::output::Output;
 use crate::stop::Stop;
 use std::alloc::{AllocError, Global};
 use std::io::Write;
+use std::slice::Iter;
 
 /// Lines that are left to print.
 pub(crate) trait Lines {
@@ -30,6 +31,34 @@ pub(crate) trait Lines {
         requires empty { line.old.items ≡ [] }
         ensures { IfOk result
             (GivesLine are_left is_open most_left self.old line.new.items self.new) };
+}
+
+/// Something that has a line.
+pub(crate) trait HasLine {
+    // the line
+    ghost line_text: { Self → Text };
+
+    /// Adds the line to `line`. If it runs out of memory, a prefix of it may have been added.
+    fn put_into(&self, line: &mut Vec<u8>) -> Result<(), AllocError>
+        ensures { OnOk result (line.new.items ≡ line.old.items ++ line_text self.now) };
+}
+
+impl<T: HasLine> Lines for Iter<'_, T> {
+    ghost use Rattle.std.specs.Prelude.{length};
+    ghost use Rattle.std.specs.List.{flat_map};
+    ghost use Rattle.std.specs.Slice.Iter.{iter_rest};
+
+    ghost are_left = { λ items text. text ≡ flat_map T.line_text (iter_rest items) };
+
+    ghost most_left = { λ items. length (iter_rest items) };
+
+    fn put_next(&mut self, line: &mut Vec<u8>) -> Result<bool, AllocError> {
+        let Some(item) = self.next() else {
+            return Ok(false);
+        };
+        item.put_into(line)?;
+        Ok(true)
+    }
 }
 
 /// Prints the lines of an answer that has this status. Keeps one line at a time.

@@ -2,11 +2,11 @@
 
 ghost use Rattle.std.specs.Prelude.{◌≡◌, false, option_map, vec_items};
 ghost use Rattle.rbac_question.specs.declared.command.Action.TheVariants.{Lint};
-ghost use Rattle.rbac_cli.specs.Out.{findings_text, findings_status, wanted_meant};
+ghost use Rattle.rbac_cli.specs.Out.{finding_line, findings_status, wanted_meant};
 ghost use Rattle.rbac_cli.specs.Printing.{EndsPrinting};
 ghost use Rattle.rbac_cli.specs.declared.exports.Exports.TheVariants.{Single};
 
-use crate::lines::{Lines, print_lines};
+use crate::lines::{HasLine, print_lines};
 use crate::outcome::Status;
 use crate::output::Output;
 use crate::stop::Stop;
@@ -15,7 +15,6 @@ use rbac_manifest::Export;
 use rbac_text::put_finding;
 use std::alloc::{AllocError, Global};
 use std::io::Write;
-use std::slice::Iter;
 
 /// Prints what lint finds in what was loaded, a line for each finding that is asked for: of these
 /// codes, if there is a list, and with `skip_system` not about Kubernetes' own objects.
@@ -56,25 +55,10 @@ fn status_of(findings: &[Finding]) -> Status
     }
 }
 
-impl Lines for Iter<'_, Finding> {
-    ghost use Rattle.std.specs.Prelude.{length};
-    ghost use Rattle.std.specs.Slice.Iter.{iter_rest};
+impl HasLine for Finding {
+    ghost line_text = { finding_line };
 
-    ghost are_left = { λ findings text. text ≡ findings_text (iter_rest findings) };
-
-    ghost most_left = { λ findings. length (iter_rest findings) };
-
-    fn put_next(&mut self, line: &mut Vec<u8>) -> Result<bool, AllocError> {
-        let Some(finding) = self.next() else {
-            return Ok(false);
-        };
-        let Finding {
-            code,
-            object,
-            place,
-            other,
-        } = finding;
-        put_finding(line, *code, object, *place, other)?;
-        Ok(true)
+    fn put_into(&self, line: &mut Vec<u8>) -> Result<(), AllocError> {
+        put_finding(line, self.code, &self.object, self.place, &self.other)
     }
 }

@@ -7,11 +7,10 @@ ghost use Rattle.rbac_model.specs.Lists.{IsAscendingBy};
 ghost use Rattle.rbac_model.specs.Unions.{who_name};
 ghost use Rattle.rbac_paths.specs.declared.steps.Step.{Step as PathStep};
 ghost use Rattle.rbac_question.specs.declared.command.Action.TheVariants.{Paths as ListsPaths};
-ghost use Rattle.rbac_cli.specs.Out.{paths_text};
 ghost use Rattle.rbac_cli.specs.Printing.{EndsPrinting};
 ghost use Rattle.rbac_cli.specs.declared.exports.Exports.TheVariants.{Single};
 
-use crate::lines::{Lines, print_lines};
+use crate::lines::{HasLine, print_lines};
 use crate::outcome::Status;
 use crate::output::Output;
 use crate::stop::Stop;
@@ -23,7 +22,6 @@ use rbac_terms::Principal;
 use rbac_universe::Principals;
 use std::alloc::{AllocError, Global};
 use std::io::Write;
-use std::slice::Iter;
 
 /// Prints whom and what the principal comes to by these steps, a line for each.
 pub(crate) fn print_paths<W: Write + Drop>(
@@ -61,19 +59,12 @@ fn principals_of(alloc: Global, export: &Export) -> Result<Principals, AllocErro
     principals_once_each(export.principals(alloc)?)
 }
 
-impl Lines for Iter<'_, Path<'_>> {
-    ghost use Rattle.std.specs.Prelude.{length};
-    ghost use Rattle.std.specs.Slice.Iter.{iter_rest};
+impl HasLine for Path<'_> {
+    ghost use Rattle.rbac_paths.specs.PathLines.{path_text};
 
-    ghost are_left = { λ paths text. text ≡ paths_text (iter_rest paths) };
+    ghost line_text = { path_text };
 
-    ghost most_left = { λ paths. length (iter_rest paths) };
-
-    fn put_next(&mut self, line: &mut Vec<u8>) -> Result<bool, AllocError> {
-        let Some(path) = self.next() else {
-            return Ok(false);
-        };
-        put_path(line, path)?;
-        Ok(true)
+    fn put_into(&self, line: &mut Vec<u8>) -> Result<(), AllocError> {
+        put_path(line, self)
     }
 }
