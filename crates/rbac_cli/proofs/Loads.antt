@@ -11,7 +11,7 @@ use Rattle.rbac_model.specs.Policies.{PolicyView}
 use Rattle.rbac_model.specs.declared.objects.Object.{Object}
 use Rattle.rbac_manifest.specs.Load.{HasTooManyGrants, document_fault, fault_from, file_refusal, in_file}
 use Rattle.rbac_question.specs.declared.command.Action.{Action}
-use Rattle.rbac_question.specs.declared.command.Action.TheVariants.{CanI, WhoCan, Rules, Matrix, Lint, Powers, Paths, Diff}
+use Rattle.rbac_question.specs.declared.command.Action.TheVariants.{CanI, WhoCan, WaysTo, Rules, Matrix, Lint, Powers, Paths, Diff}
 use Rattle.rbac_question.specs.declared.command.Action.TheVariants as action
 use Rattle.rbac_question.specs.declared.command.Change.{Change}
 use Rattle.rbac_question.specs.declared.command.Change.TheVariants.{Over}
@@ -30,6 +30,7 @@ use Rattle.rbac_cli.specs.declared.outcome.Status.{Status}
 pub over : (a : Action) (inputs : List (List ℕ)) (e : Exports) → AreLoaded a inputs e → IsForAction a e
 over (CanI who quiet why q) inputs (Single l) h = tt
 over (WhoCan options q) inputs (Single l) h = tt
+over (WaysTo steps q) inputs (Single l) h = tt
 over (Rules who scope) inputs (Single l) h = tt
 over (Matrix options after limit) inputs (Single l) h = tt
 over (Lint only skip) inputs (Single l) h = tt
@@ -39,6 +40,7 @@ over action.Universe inputs (Single l) h = tt
 over (Diff n change) inputs (Single l) h = h
 over (CanI who quiet why q) inputs (Pair x y) h = h
 over (WhoCan options q) inputs (Pair x y) h = h
+over (WaysTo steps q) inputs (Pair x y) h = h
 over (Rules who scope) inputs (Pair x y) h = h
 over (Matrix options after limit) inputs (Pair x y) h = h
 over (Lint only skip) inputs (Pair x y) h = h
@@ -228,6 +230,7 @@ pub of_diff : (P : Action → Type 0) (a : Action) (before after : PolicyView) �
 of_diff P (Diff n change) before after is h = h n change
 of_diff P (CanI who quiet why q) before after is h = absurd is
 of_diff P (WhoCan options q) before after is h = absurd is
+of_diff P (WaysTo steps q) before after is h = absurd is
 of_diff P (Rules who scope) before after is h = absurd is
 of_diff P (Matrix options mark limit) before after is h = absurd is
 of_diff P action.Universe before after is h = absurd is

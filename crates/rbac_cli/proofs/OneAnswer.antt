@@ -1,5 +1,5 @@
 -- What an action means is one text and one status.
-use Rattle.std.proofs.Common.{◌≡◌, ◌∙◌, ◌↔◌, ℕ, Bool, true, false, List, [], ◌∷◌, ◌++◌, map, inl, inr, Contains, Less, ap, sym, subst, refl, codes}
+use Rattle.std.proofs.Common.{◌≡◌, ◌∙◌, ◌↔◌, ℕ, Bool, true, false, List, [], ◌∷◌, ◌++◌, map, inl, inr, Contains, Less, ap, ap₂, sym, subst, refl, codes}
 use Rattle.std.specs.Prelude.{Option, Some, None, option_map, vec_items}
 use Rattle.std.proofs.lemmas.List.{append_cancel_left}
 use Rattle.rbac_terms.specs.Text.{Text}
@@ -29,15 +29,17 @@ use Rattle.rbac_lint.proofs.OneLines.{one_wanted}
 use Rattle.rbac_diff.proofs.OneChanges.{one_changes}
 use Rattle.rbac_paths.specs.Paths.{ArePathsOf, PathView}
 use Rattle.rbac_paths.specs.Powers.{ArePowers, PowerView}
+use Rattle.rbac_paths.specs.Access.{AccessView}
+use Rattle.rbac_paths.specs.WaysTo.{AreWaysTo, WayView}
 use Rattle.rbac_paths.specs.declared.steps.Step.{Step}
 use Rattle.rbac_document.proofs.OneDocument.{one_document}
 use Rattle.rbac_question.specs.declared.command.Action.{Action}
-use Rattle.rbac_question.specs.declared.command.Action.TheVariants.{CanI, WhoCan, Rules, Matrix, Universe, Lint, Powers, Paths, Diff}
+use Rattle.rbac_question.specs.declared.command.Action.TheVariants.{CanI, WhoCan, WaysTo, Rules, Matrix, Universe, Lint, Powers, Paths, Diff}
 use Rattle.rbac_question.specs.declared.command.HolderOptions.{HolderOptions}
 use Rattle.rbac_question.specs.declared.command.MatrixOptions.{MatrixOptions}
 use Rattle.rbac_question.specs.declared.command.Question.{Question}
 use Rattle.rbac_cli.specs.HolderLines.{AreHolderLines, joined_lines}
-use Rattle.rbac_cli.specs.Out.{Answers, IsAllowed, IsDenied, rules_text, findings_text, findings_status, wanted_meant, powers_text, paths_text, changes_text, changes_status, line_unless}
+use Rattle.rbac_cli.specs.Out.{Answers, IsAllowed, IsDenied, rules_text, findings_text, findings_status, wanted_meant, powers_text, paths_text, ways_text, changes_text, changes_status, line_unless}
 use Rattle.rbac_cli.specs.MatrixPage.{AreRows, AreListedRows}
 use Rattle.rbac_cli.specs.Meant.{IsScopeMeant, requested_meant}
 use Rattle.rbac_cli.specs.declared.exports.Exports.{Exports}
@@ -249,7 +251,7 @@ not_both held entries who q (t, n, meant, allows) (u, m, means, none) =
     let same = one_meant entries q t u n m meant means in
     none (subst (λ x. Allows held who m q.verb x) same.0 (subst (λ x. Allows held who x q.verb t) same.1 allows))
 
--- what is known of powers and of paths
+-- what is known of powers, of paths and of ways
 abbrev pub PowersOne : Type 0
 PowersOne = (p : PolicyView) (xs others : List PowerView) → ArePowers p xs → ArePowers p others → xs ≡ others
 
@@ -257,7 +259,11 @@ abbrev pub PathsOne : Type 0
 PathsOne = (p : PolicyView) (principals : List Who) (steps : List Step) (who : Who) (xs others : List PathView) → ArePathsOf p principals steps who xs
     → ArePathsOf p principals steps who others → xs ≡ others
 
-module _ (powers_one : PowersOne) (paths_one : PathsOne) where
+abbrev pub WaysOne : Type 0
+WaysOne = (p : PolicyView) (principals : List Who) (steps : List Step) (asked : AccessView) (xs others : List WayView) → AreWaysTo p principals steps asked xs
+    → AreWaysTo p principals steps asked others → xs ≡ others
+
+module _ (powers_one : PowersOne) (paths_one : PathsOne) (ways_one : WaysOne) where
   pub one_answer : (e : Exports) (action : Action) (text other : List ℕ) (status ending : Status) → Answers e action text status → Answers e action other ending
       → (text ≡ other) × (status ≡ ending)
   one_answer (Single l) (CanI who quiet why q) text other status ending (inl (a, (r, is, e), s)) (inl (b, (o, are, f), t)) = (
@@ -268,6 +274,11 @@ module _ (powers_one : PowersOne) (paths_one : PathsOne) where
   one_answer (Single l) (CanI who quiet why q) text other status ending (inr a) (inl b) = absurd (not_both l.policy.held l.catalogue.entries who q b.0 a.0)
   one_answer (Single l) (CanI who quiet why q) text other status ending (inr a) (inr b) = (a.1 ∙ sym b.1, a.2 ∙ sym b.2)
   one_answer (Single l) (WhoCan options q) text other status ending a b = one_holders_text l options q text other status ending a b
+  one_answer (Single l) (WaysTo steps q) text other status ending (t, n, meant, (xs, are, e, s)) (u, m, means, (ys, those, f, z)) =
+      let same = one_meant l.catalogue.entries q t u n m meant means in
+      let asked : What → Text → AccessView = λ target namespace. record { namespace = namespace; verb = q.verb; target = target } in
+      let here = subst (λ (a : AccessView). AreWaysTo l.policy l.principals (vec_items steps) a xs) (ap₂ asked same.0 same.1) are in
+      (e ∙ ap ways_text (ways_one l.policy l.principals (vec_items steps) (asked u m) xs ys here those) ∙ sym f, s ∙ sym z)
   one_answer (Single l) (Rules who scope) text other status ending (xs, are, e, s) (ys, those, f, t) =
       (e ∙ ap rules_text (one_rules who scope l.policy.grants xs ys are those) ∙ sym f, s ∙ sym t)
   one_answer (Single l) (Matrix options after limit) text other status ending (u, rows, m, x, e, s) (v, others, n, y, f, t) = (
@@ -288,6 +299,7 @@ module _ (powers_one : PowersOne) (paths_one : PathsOne) where
       (e ∙ ap changes_text one ∙ sym f, s ∙ ap changes_status one ∙ sym t)
   one_answer (Pair before after) (CanI who quiet why q) text other status ending a b = absurd a
   one_answer (Pair before after) (WhoCan options q) text other status ending a b = absurd a
+  one_answer (Pair before after) (WaysTo steps q) text other status ending a b = absurd a
   one_answer (Pair before after) (Rules who scope) text other status ending a b = absurd a
   one_answer (Pair before after) (Matrix options mark limit) text other status ending a b = absurd a
   one_answer (Pair before after) Universe text other status ending a b = absurd a

@@ -13,7 +13,7 @@ use Rattle.rbac_model.specs.declared.objects.Object.{Object}
 use Rattle.std.specs.Prelude.{Option, Some, None}
 use Rattle.std.proofs.lemmas.Option.{same_Some}
 use Rattle.rbac_question.specs.declared.command.Action.{Action}
-use Rattle.rbac_question.specs.declared.command.Action.TheVariants.{CanI, WhoCan, Rules, Matrix, Lint, Powers, Paths, Diff}
+use Rattle.rbac_question.specs.declared.command.Action.TheVariants.{CanI, WhoCan, WaysTo, Rules, Matrix, Lint, Powers, Paths, Diff}
 use Rattle.rbac_question.specs.declared.command.Action.TheVariants as action
 use Rattle.rbac_question.specs.declared.command.Command.{Command}
 use Rattle.rbac_cli.specs.Exports.{AreLoaded, AreInputsRefused, IsSide, IsSideRefused, behind}
@@ -24,7 +24,7 @@ use Rattle.rbac_cli.specs.Ends.{Ends, LacksUniverse, IsUnstopped}
 use Rattle.rbac_cli.specs.declared.outcome.Status.{Status}
 use Rattle.rbac_cli.specs.declared.outcome.RunFault.{RunFault}
 use Rattle.rbac_cli.specs.declared.outcome.RunFault.TheVariants.{Load, Universe, Memory, Write}
-use Rattle.rbac_cli.proofs.OneAnswer.{PathsOne, PowersOne, one_answer}
+use Rattle.rbac_cli.proofs.OneAnswer.{PathsOne, PowersOne, WaysOne, one_answer}
 
 -- what is known of loading and of universes
 abbrev pub LoadsOne : Type 0
@@ -66,6 +66,7 @@ same_universe_fault lists f universe.NoMemory a n b m = absurd (m refl)
 lacks_for_one : (e : Exports) (action : Action) (f g : UniverseFault) → LacksUniverse e action f → LacksUniverse e action g → f ≡ g
 lacks_for_one (Single l) (CanI who quiet why q) f g a b = absurd a
 lacks_for_one (Single l) (WhoCan options q) f g a b = absurd a
+lacks_for_one (Single l) (WaysTo steps q) f g a b = absurd a
 lacks_for_one (Single l) (Rules who scope) f g a b = absurd a
 lacks_for_one (Single l) action.Universe f g a b = absurd a
 lacks_for_one (Single l) (Lint only skip) f g a b = absurd a
@@ -78,11 +79,12 @@ lacks_for_one (Pair before after) action f g a b = absurd a
 none_and_some : {T : Type 0} (o : Option T) (x : T) → o ≡ None → o ≡ Some x → ⊥
 none_and_some o x none some = cc
 
-module _ (loads_one : LoadsOne) (no_fault : HasNoFault) (one_fault : HasOneFault) (resolves_one : ResolvesOne) (few_enough : HasNoTooMany) (no_universe_fault : HasNoUniverseFault) (powers_one : PowersOne) (paths_one : PathsOne) where
+module _ (loads_one : LoadsOne) (no_fault : HasNoFault) (one_fault : HasOneFault) (resolves_one : ResolvesOne) (few_enough : HasNoTooMany) (no_universe_fault : HasNoUniverseFault) (powers_one : PowersOne) (paths_one : PathsOne) (ways_one : WaysOne) where
   -- what has an answer lacks no universe
   not_lacking : (e : Exports) (action : Action) (text : List ℕ) (status : Status) (f : UniverseFault) → Answers e action text status → LacksUniverse e action f → ⊥
   not_lacking (Single l) (CanI who quiet why q) text status f a b = b
   not_lacking (Single l) (WhoCan options q) text status f a b = b
+  not_lacking (Single l) (WaysTo steps q) text status f a b = b
   not_lacking (Single l) (Rules who scope) text status f a b = b
   not_lacking (Single l) action.Universe text status f a b = b
   not_lacking (Single l) (Lint only skip) text status f a b = b
@@ -114,6 +116,7 @@ module _ (loads_one : LoadsOne) (no_fault : HasNoFault) (one_fault : HasOneFault
   one_loaded (Diff n change) inputs (Pair x y) (Single m) a b = absurd b
   one_loaded (CanI who quiet why q) inputs (Single l) (Single m) a b = one_single inputs l m a b
   one_loaded (WhoCan options q) inputs (Single l) (Single m) a b = one_single inputs l m a b
+  one_loaded (WaysTo steps q) inputs (Single l) (Single m) a b = one_single inputs l m a b
   one_loaded (Rules who scope) inputs (Single l) (Single m) a b = one_single inputs l m a b
   one_loaded (Matrix options after limit) inputs (Single l) (Single m) a b = one_single inputs l m a b
   one_loaded action.Universe inputs (Single l) (Single m) a b = one_single inputs l m a b
@@ -122,6 +125,7 @@ module _ (loads_one : LoadsOne) (no_fault : HasNoFault) (one_fault : HasOneFault
   one_loaded (Paths who steps) inputs (Single l) (Single m) a b = one_single inputs l m a b
   one_loaded (CanI who quiet why q) inputs (Pair x y) d a b = absurd a
   one_loaded (WhoCan options q) inputs (Pair x y) d a b = absurd a
+  one_loaded (WaysTo steps q) inputs (Pair x y) d a b = absurd a
   one_loaded (Rules who scope) inputs (Pair x y) d a b = absurd a
   one_loaded (Matrix options after limit) inputs (Pair x y) d a b = absurd a
   one_loaded action.Universe inputs (Pair x y) d a b = absurd a
@@ -130,6 +134,7 @@ module _ (loads_one : LoadsOne) (no_fault : HasNoFault) (one_fault : HasOneFault
   one_loaded (Paths who steps) inputs (Pair x y) d a b = absurd a
   one_loaded (CanI who quiet why q) inputs (Single l) (Pair x y) a b = absurd b
   one_loaded (WhoCan options q) inputs (Single l) (Pair x y) a b = absurd b
+  one_loaded (WaysTo steps q) inputs (Single l) (Pair x y) a b = absurd b
   one_loaded (Rules who scope) inputs (Single l) (Pair x y) a b = absurd b
   one_loaded (Matrix options after limit) inputs (Single l) (Pair x y) a b = absurd b
   one_loaded action.Universe inputs (Single l) (Pair x y) a b = absurd b
@@ -143,6 +148,7 @@ module _ (loads_one : LoadsOne) (no_fault : HasNoFault) (one_fault : HasOneFault
   not_refused (Diff n change) inputs (Single l) f a h = a
   not_refused (CanI who quiet why q) inputs (Single l) f a h = no_fault inputs l f a h
   not_refused (WhoCan options q) inputs (Single l) f a h = no_fault inputs l f a h
+  not_refused (WaysTo steps q) inputs (Single l) f a h = no_fault inputs l f a h
   not_refused (Rules who scope) inputs (Single l) f a h = no_fault inputs l f a h
   not_refused (Matrix options after limit) inputs (Single l) f a h = no_fault inputs l f a h
   not_refused action.Universe inputs (Single l) f a h = no_fault inputs l f a h
@@ -151,6 +157,7 @@ module _ (loads_one : LoadsOne) (no_fault : HasNoFault) (one_fault : HasOneFault
   not_refused (Paths who steps) inputs (Single l) f a h = no_fault inputs l f a h
   not_refused (CanI who quiet why q) inputs (Pair x y) f a h = a
   not_refused (WhoCan options q) inputs (Pair x y) f a h = a
+  not_refused (WaysTo steps q) inputs (Pair x y) f a h = a
   not_refused (Rules who scope) inputs (Pair x y) f a h = a
   not_refused (Matrix options after limit) inputs (Pair x y) f a h = a
   not_refused action.Universe inputs (Pair x y) f a h = a
@@ -166,6 +173,7 @@ module _ (loads_one : LoadsOne) (no_fault : HasNoFault) (one_fault : HasOneFault
       e ∙ ap (behind (length (take n inputs))) (one_side_refusal _ _ own other has had) ∙ sym d
   one_refusal (CanI who quiet why q) inputs f g a b = one_fault inputs f g a b
   one_refusal (WhoCan options q) inputs f g a b = one_fault inputs f g a b
+  one_refusal (WaysTo steps q) inputs f g a b = one_fault inputs f g a b
   one_refusal (Rules who scope) inputs f g a b = one_fault inputs f g a b
   one_refusal (Matrix options after limit) inputs f g a b = one_fault inputs f g a b
   one_refusal action.Universe inputs f g a b = one_fault inputs f g a b
@@ -178,7 +186,7 @@ module _ (loads_one : LoadsOne) (no_fault : HasNoFault) (one_fault : HasOneFault
         → Ends took command inputs (Ok status) → Ends others command inputs other → EndAlike took others (Ok status) other
     answered took others status (Ok ending) s (l, is, (text, a, t)) (m, are, (more, b, u)) =
         let here = subst (λ (x : Exports). Answers x command.action text status) (one_loaded command.action inputs l m is are) a in
-        let same = one_answer powers_one paths_one m command.action text more status ending here b in
+        let same = one_answer powers_one paths_one ways_one m command.action text more status ending here b in
         (ap Ok same.1, (text, t, subst others (sym same.0) u))
     answered took others status (Err (Load f)) s (l, is, told) (has, t) = absurd (not_refused command.action inputs l f is has)
     answered took others status (Err (Universe f)) s (l, is, (text, a, t)) ((m, are, lacks), u) =

@@ -21,11 +21,14 @@ use Rattle.rbac_paths.specs.Powers.{ArePowers, PowerView}
 use Rattle.rbac_paths.specs.Lines.{power_text}
 use Rattle.rbac_paths.specs.Paths.{ArePathsOf, PathView}
 use Rattle.rbac_paths.specs.PathLines.{path_text}
+use Rattle.rbac_paths.specs.WaysTo.{AreWaysTo, WayView}
+use Rattle.rbac_paths.specs.WayLines.{way_text}
 use Rattle.rbac_diff.specs.Changes.{ChangeView, AreChanges}
 use Rattle.rbac_diff.specs.Lines.{change_text}
 use Rattle.rbac_question.specs.declared.command.Action.{Action}
-use Rattle.rbac_question.specs.declared.command.Action.TheVariants.{CanI, WhoCan, Rules, Matrix}
-use Rattle.rbac_question.specs.declared.command.Action.TheVariants.{Universe, Lint, Powers, Paths, Diff}
+use Rattle.rbac_question.specs.declared.command.Action.TheVariants.{CanI, WhoCan, WaysTo}
+use Rattle.rbac_question.specs.declared.command.Action.TheVariants.{Rules, Matrix, Universe, Lint}
+use Rattle.rbac_question.specs.declared.command.Action.TheVariants.{Powers, Paths, Diff}
 use Rattle.rbac_question.specs.declared.command.Question.{Question}
 use Rattle.rbac_rules.specs.Effective.{RuleView, AreEffective}
 use Rattle.rbac_index.specs.WhoCan.{AreListedHolders}
@@ -109,6 +112,10 @@ powers_text xs = flat_map power_text xs
 abbrev pub paths_text : List PathView → Text
 paths_text xs = flat_map path_text xs
 
+-- a line for each way, in order
+abbrev pub ways_text : List WayView → Text
+ways_text xs = flat_map way_text xs
+
 -- a line for each change, in order
 abbrev pub changes_text : List ChangeView → Text
 changes_text xs = flat_map change_text xs
@@ -119,13 +126,14 @@ changes_status [] = Zero
 changes_status (x ∷ xs) = One
 
 -- the text and the status that an action means over what was loaded: `can-i` answers `yes` and 0,
--- or `no` and 1 (kubectl auth can-i); `who-can` answers a line for each holder, and 0; `rules` a line
--- for each rule that somebody has, and 0 (own); `matrix` a page of the rows that are listed over a
--- universe of the lists, and 0 (own); `universe` the Universe document of the lists, and 0 (own);
--- `lint` a line for each finding that is asked for, and 1 if there is one (own); `powers` a line for
--- each step that a user or a group can take, and 0 (own); `paths` a line for each node that somebody
--- comes to by the steps that are asked for, and 0 (own); `diff` a line for each change from the first
--- policy to the second, and 1 if there is one (own)
+-- or `no` and 1 (kubectl auth can-i); `who-can` answers a line for each holder, and 0, or with
+-- `--indirect` a line for each node from which the steps that are asked for, or none, lead to one that
+-- allows what is asked, and 0 (own); `rules` a line for each rule that somebody has, and 0 (own);
+-- `matrix` a page of the rows that are listed over a universe of the lists, and 0 (own); `universe`
+-- the Universe document of the lists, and 0 (own); `lint` a line for each finding that is asked for,
+-- and 1 if there is one (own); `powers` a line for each step that a user or a group can take, and 0
+-- (own); `paths` a line for each node that somebody comes to by the steps that are asked for, and 0
+-- (own); `diff` a line for each change from the first policy to the second, and 1 if there is one (own)
 abbrev pub Answers : Exports → Action → List ℕ → Status → Type 0
 Answers (Single l) (CanI who quiet why q) text status =
     (IsAllowed l.policy.held l.catalogue.entries who q
@@ -142,6 +150,11 @@ Answers (Single l) (WhoCan options q) text status =
     (requested_meant options.any_name target) xs
     × AreHolderLines l.policy options.why q.verb (requested_meant options.any_name target) xs lines
     × (text ≡ joined_lines lines) × (status ≡ Zero))
+Answers (Single l) (WaysTo steps q) text status =
+    (target : What) × (namespace : Text) × IsMeant l.catalogue.entries q target namespace
+    × ((xs : List WayView) × AreWaysTo l.policy l.principals (vec_items steps)
+    (record { namespace = namespace; verb = q.verb; target = target }) xs
+    × (text ≡ ways_text xs) × (status ≡ Zero))
 Answers (Single l) (Rules who scope) text status =
     (xs : List RuleView) × AreEffective l.policy who scope xs
     × (text ≡ rules_text xs) × (status ≡ Zero)

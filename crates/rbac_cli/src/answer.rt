@@ -16,6 +16,7 @@ use crate::powers::print_powers;
 use crate::rules::print_rules;
 use crate::stop::Stop;
 use crate::universe::print_universe;
+use crate::ways::print_ways;
 use crate::who_can::print_holders;
 use rbac_question::Action;
 use std::alloc::Global;
@@ -49,6 +50,9 @@ pub(crate) fn print_answer<W: Write + Drop>(
         }
         Action::WhoCan { options, question } => {
             print_holders(alloc, export, *options, question, output)
+        }
+        Action::WaysTo { steps, question } => {
+            print_ways(alloc, export, steps.as_slice(), question, output)
         }
         Action::Rules { principal, scope } => {
             print_rules(alloc, export, principal, scope, output)

@@ -28,7 +28,7 @@ use rbac_manifest::{
     load_faults_are_one, loaded_inputs_are_one, loaded_inputs_have_no_fault,
     resolved_policies_are_one, resolved_policies_have_no_fault,
 };
-use rbac_paths::{paths_are_one, powers_are_one};
+use rbac_paths::{paths_are_one, powers_are_one, ways_are_one};
 use rbac_universe::universes_have_no_fault;
 use std::io::Write;
 
@@ -41,6 +41,7 @@ pub fn answers_are_one()
 {
     powers_are_one();
     paths_are_one();
+    ways_are_one();
 }
 
 /// Two runs of one command over the same inputs end alike, and their writers take the same text, if
@@ -63,6 +64,7 @@ pub fn runs_are_one<V: Write, W: Write>()
     universes_have_no_fault();
     powers_are_one();
     paths_are_one();
+    ways_are_one();
 }
 
 /// No line of a `diff` begins with `+` exactly if every request of every user, in every namespace,

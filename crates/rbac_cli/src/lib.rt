@@ -24,6 +24,7 @@ mod rules;
 mod running;
 mod stop;
 mod universe;
+mod ways;
 mod who_can;
 
 pub use laws::{answers_are_one, plus_lines_tell_all, runs_are_one, universes_are_taken_back};

@@ -50,8 +50,8 @@ pub(crate) fn print_paths<W: Write + Drop>(
     print_lines(alloc, &mut found.as_slice().iter(), Status::Zero, output)
 }
 
-// The users and groups that bindings and ServiceAccount objects name, each once, in order of keys.
-fn principals_of(alloc: Global, export: &Export) -> Result<Principals, AllocError>
+/// The users and groups that bindings and ServiceAccount objects name, each once, in order of keys.
+pub(crate) fn principals_of(alloc: Global, export: &Export) -> Result<Principals, AllocError>
     ensures ordered { IfOk result (IsAscendingBy who_name) }
     ensures exact { IfOk result
         (λ each. (who : Who) → Contains each who ↔ Contains export.now.principals who) }

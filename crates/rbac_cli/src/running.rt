@@ -24,6 +24,10 @@ use std::io::Write;
 /// line for each pair of a request and a binding that grants it, if the pair's row comes after the
 /// token's mark. With `--once` rows that have a namespace and a ClusterRoleBinding are left out.
 ///
+/// For `who-can --indirect` it writes exactly one line for each node from which a list of steps, also
+/// an empty one, leads to a node that allows what is asked for. The nodes are the users and groups
+/// that bindings and ServiceAccount objects name, and whom and what they come to by these steps.
+///
 /// For a `diff` the first inputs tell what was before a change. The others tell what is after it, or
 /// which objects it takes away and which it puts over.
 ///

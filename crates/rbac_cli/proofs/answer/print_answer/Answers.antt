@@ -41,3 +41,6 @@ returns-in-Pair g c =
 
 pub returns-in-Paths : goal.returns-in-Paths
 returns-in-Paths g c = rw (c.in-Single.is, c.in-Paths.is) (c.print_paths.ensures c.in-Paths.steps (sym c.as_slice-in-Paths.ensures.value))
+
+pub returns-in-WaysTo : goal.returns-in-WaysTo
+returns-in-WaysTo g c = rw (c.in-Single.is, c.in-WaysTo.is) (c.print_ways.ensures c.in-WaysTo.steps (sym c.as_slice-in-WaysTo.ensures.value))
