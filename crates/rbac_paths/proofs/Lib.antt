@@ -1,5 +1,6 @@
 pub mod Accounts
 pub mod Adding
+pub mod Agreeing
 pub mod AllPowers
 pub mod AllSteps
 pub mod AllowedBy

@@ -6,3 +6,8 @@ use Rattle.rbac_terms.specs.Principals.{Who, who_key}
 abbrev pub IsOneWith : List Who → Who → Who → Type 0
 IsOneWith principals asked who = (who ≡ asked)
     ⊎ (Contains principals who × (who_key who ≢ who_key asked))
+
+-- keys tell these users and groups apart
+abbrev pub AreToldByKeys : List Who → Type 0
+AreToldByKeys principals = (who other : Who) → Contains principals who → Contains principals other
+    → who_key who ≡ who_key other → who ≡ other

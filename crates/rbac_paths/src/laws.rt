@@ -1,10 +1,12 @@
 //! Laws of powers and of paths, each stated by the contract of a function that does nothing.
 
-ghost use Rattle.std.specs.Prelude.{◌≡◌, List};
+ghost use Rattle.std.specs.Prelude.{◌≡◌, ◌↔◌, ◌⊎◌, Any, Contains, List};
 ghost use Rattle.rbac_model.specs.Policies.{PolicyView};
-ghost use Rattle.rbac_paths.specs.Access.{AccessView};
+ghost use Rattle.rbac_paths.specs.Access.{AccessView, AllowsAccess};
+ghost use Rattle.rbac_paths.specs.Nodes.{Somebody};
 ghost use Rattle.rbac_paths.specs.Paths.{ArePathsOf, PathView};
 ghost use Rattle.rbac_paths.specs.Powers.{ArePowers, PowerView};
+ghost use Rattle.rbac_paths.specs.Principals.{AreToldByKeys};
 ghost use Rattle.rbac_paths.specs.WaysTo.{AreWaysTo, WayView};
 ghost use Rattle.rbac_paths.specs.declared.steps.Step.{Step};
 ghost use Rattle.rbac_terms.specs.Principals.{Who};
@@ -29,4 +31,15 @@ pub fn ways_are_one()
     ensures { (p : PolicyView) (principals : List Who) (steps : List Step) (asked : AccessView)
         (xs others : List WayView) → AreWaysTo p principals steps asked xs
         → AreWaysTo p principals steps asked others → xs ≡ others }
+{}
+
+/// Somebody, whose key tells them apart from the others, is listed among the ways to what is asked for
+/// exactly if they are allowed it, or their paths have a node that allows it (own).
+pub fn ways_agree_with_paths()
+    ensures { (p : PolicyView) (principals : List Who) (steps : List Step) (who : Who)
+        (asked : AccessView) (paths : List PathView) (ways : List WayView)
+        → AreToldByKeys principals → Contains principals who
+        → ArePathsOf p principals steps who paths → AreWaysTo p principals steps asked ways
+        → Any (λ x. x.node ≡ Somebody who) ways
+        ↔ (AllowsAccess p asked (Somebody who) ⊎ Any (λ x. AllowsAccess p asked x.node) paths) }
 {}
