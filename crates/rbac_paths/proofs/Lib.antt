@@ -6,6 +6,7 @@ pub mod AllSteps
 pub mod AllowedBy
 pub mod Allowing
 pub mod Asking
+pub mod Beginning
 pub mod BoundNames
 pub mod ByRules
 pub mod Choosing
