@@ -4,6 +4,7 @@ pub mod KeyingLemmas
 pub mod KeysOf
 pub mod LeastLemmas
 pub mod LivingLemmas
+pub mod NamedLemmas
 pub mod NamespaceLemmas
 pub mod NextRunLemmas
 pub mod TakingLemmas

@@ -1,6 +1,6 @@
 -- Which grants a principal has in a namespace, whatever their rules.
 use Rattle.std.specs.Prelude.{◌≡◌, ◌≢◌, ℕ, ◌<◌, ◌≤◌, ◌↔◌, Any, Bool, IsTrue, List, [], ◌∷◌, Some}
-use Rattle.std.specs.Prelude.{Option, MatchOption, length, slice_get}
+use Rattle.std.specs.Prelude.{Contains, Option, MatchOption, length, slice_get}
 use Rattle.std.specs.declared.cmp.Ordering.TheVariants.{Less}
 use Rattle.rbac_terms.specs.Text.{Text, text_cmp}
 use Rattle.rbac_terms.specs.Principals.{Who}
@@ -57,6 +57,11 @@ IsNextRun p who namespace = IsNextRunOf p (IsBoundTo p who namespace)
 abbrev pub AnswersNextRun : PolicyView → (ℕ → Type 0) → ℕ → Option (ℕ × ℕ) → Type 0
 AnswersNextRun p P from o = MatchOption o ((number : ℕ) → from ≤ number → ¬ P number)
     (λ run. IsNextRunOf p P from run.0 run.1)
+
+-- exactly the places of the bindings with grants that name who asks
+abbrev pub AreNamedPlaces : PolicyView → Who → List ℕ → Type 0
+AreNamedPlaces p who places = (number at : ℕ) → IsOfBinding p number at
+    → Contains places at ↔ IsNamedBy p who number
 
 -- the run has exactly the grants of the binding at that place
 abbrev pub IsRunAt : PolicyView → ℕ → Run → Type 0

@@ -66,6 +66,14 @@ IsLiveUnder xs live key place = Contains xs (keyed key place) × IsLiveAt live p
 abbrev pub IsUnderBetween : List Keyed → Text → ℕ → ℕ → ℕ → Type 0
 IsUnderBetween xs key from to place = Contains xs (keyed key place) × (from ≤ place) × (place < to)
 
+-- one of these keys is listed with the place, which comes before `end`
+abbrev pub IsUnderAny : List Keyed → (Text → Type 0) → ℕ → ℕ → Type 0
+IsUnderAny xs Has end place = (key : Text) × Has key × IsUnderBetween xs key 0 end place
+
+-- new has what old has, and the places that have the property
+abbrev pub AddsPlaces : (ℕ → Type 0) → List ℕ → List ℕ → Type 0
+AddsPlaces P old new = (place : ℕ) → Contains new place ↔ (Contains old place ⊎ P place)
+
 -- one of these keys is listed with the place, and the binding there is live
 abbrev pub IsLiveUnderAny : List Keyed → Live → (Text → Type 0) → ℕ → Type 0
 IsLiveUnderAny xs live Has place = (key : Text) × Has key × IsLiveUnder xs live key place

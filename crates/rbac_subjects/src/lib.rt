@@ -7,6 +7,7 @@ mod first_places;
 mod first_runs;
 mod least_places;
 mod live_bindings;
+mod named_places;
 mod principal_keys;
 mod subject_index;
 mod subject_keys;

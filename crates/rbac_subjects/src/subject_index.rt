@@ -4,7 +4,7 @@ ghost use Rattle.std.specs.Prelude.{◌≡◌, ◌≤◌, ◌↔◌, ℕ, length
 ghost use Rattle.std.specs.Prelude.{option_copied, true, false};
 ghost use Rattle.rbac_model.specs.Holders.{IsKeyFor};
 ghost use Rattle.rbac_model.specs.Policies.{IsPolicy};
-ghost use Rattle.rbac_subjects.specs.Bound.{AreRunsFrom, HasRoleBindings, IsBoundTo, IsNamedBy};
+ghost use Rattle.rbac_subjects.specs.Bound.{AreNamedPlaces, AreRunsFrom, HasRoleBindings, IsBoundTo, IsNamedBy};
 ghost use Rattle.rbac_subjects.specs.Bound.{AnswersNextNamespace, AnswersNextRun};
 ghost use Rattle.rbac_subjects.specs.Keyed.{AreKeyed, IsOfLive};
 ghost use Rattle.rbac_subjects.specs.Least.{most_kept};
@@ -13,10 +13,11 @@ use crate::fault::IndexFault;
 use crate::first_places::first_places;
 use crate::first_runs::{FirstRuns, runs_at};
 use crate::live_bindings::{Live, everywhere, first_from, live_for_some, of_namespace};
+use crate::named_places::places_under;
 use crate::subject_keys::{Keyed, keyed_by, next_for};
 use rbac_model::Policy;
 use rbac_terms::{Principal, Word};
-use std::alloc::Global;
+use std::alloc::{AllocError, Global};
 use std::marker::Model;
 
 /// The bindings of a policy that have grants, under the keys of their subjects: so those that name
@@ -102,6 +103,20 @@ impl<'p> SubjectIndex<'p> {
         let bindings = self.policy.bindings();
         let all = everywhere(bindings);
         next_live_run(self.policy, self.named.as_slice(), principal, all, from)
+    }
+
+    /// The places, among the policy's bindings, of those with grants that name the principal, wherever
+    /// they are live: in any order, and one may be there more than once. Each key of the principal is
+    /// looked up once. Fails only if it runs out of memory.
+    pub fn named_places(
+        &self,
+        alloc: Global,
+        principal: &Principal,
+    ) -> Result<Vec<usize>, AllocError>
+        ensures { IfOk result (λ places. AreNamedPlaces self.now principal.now places.items) }
+    {
+        let end = self.policy.bindings().len();
+        places_under(alloc, self.named.as_slice(), principal, end)
     }
 
     /// The first runs of the grants of bindings that name the principal and are live in this
