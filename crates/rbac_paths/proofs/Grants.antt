@@ -25,12 +25,12 @@ module _ (step : Step) (rows : List RowView) (of : AreOfStep step table rows) (h
 
 -- what grants let somebody do is what they are allowed
 module _ (p : PolicyView) (ok : IsPolicy p) (who : Who) (step : Step) (y : NodeView) where
-  by_grant : (n : ℕ) (g : GrantView) → slice_get p.grants n ≡ Some g → GrantTakes who step y g → CanTakeOver p (Somebody who) step y
+  pub by_grant : (n : ℕ) (g : GrantView) → slice_get p.grants n ≡ Some g → GrantTakes who step y g → CanTakeOver p (Somebody who) step y
   by_grant n g here (named, gives) =
       takes_over p (Somebody who) step y g.binding.namespace g.rule.rule
       (λ namespace verb t live allows. grant_allows p ok who namespace verb t (n, g, slice_get_within p.grants n g here, get_or_from_slice_get p.grants n g g here, (live, named, allows))) gives
 
-  some_takes : CanTakeOver p (Somebody who) step y → (n : ℕ) × (g : GrantView) × (slice_get p.grants n ≡ Some g) × GrantTakes who step y g
+  pub some_takes : CanTakeOver p (Somebody who) step y → (n : ℕ) × (g : GrantView) × (slice_get p.grants n ≡ Some g) × GrantTakes who step y g
   some_takes c =
       let by = some_grant p.held p.grants who (asked_in c.row.counts c.namespace) c.verb (Resource c.row.group c.text c.name) ok.0 ok.1 c.allowed in
       let g = by.1 in (

@@ -17,6 +17,7 @@ pub mod Giving
 pub mod GraphOf
 pub mod GraphWays
 pub mod Grants
+pub mod InScopes
 pub mod Mapped
 pub mod NodeWords
 pub mod NodesAdded
@@ -37,6 +38,7 @@ pub mod Taken
 pub mod Telling
 pub mod Tracing
 pub mod Untold
+pub mod WhatDecides
 pub mod WordsAdded
 pub mod WordsOfWhom
 pub mod WordsTaken

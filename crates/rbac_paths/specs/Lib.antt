@@ -1,6 +1,7 @@
 pub mod AddingNodes
 pub mod Asked
 pub mod BoundNames
+pub mod Deciding
 pub mod Finding
 pub mod Having
 pub mod Joints

@@ -5,6 +5,7 @@
 mod all_paths;
 mod all_steps;
 mod bound_names;
+mod deciding;
 mod finding;
 mod graph;
 mod holding;

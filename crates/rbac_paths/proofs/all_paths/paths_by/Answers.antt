@@ -1,4 +1,4 @@
-use Rattle.std.proofs.Common.{◌≡◌, ◌+◌, List, MatchOption, Option, ℕ, get_or, map, subst, sym, take}
+use Rattle.std.proofs.Common.{◌≡◌, List, MatchOption, Option, ℕ, get_or, map, subst, sym, take}
 use Rattle.std.proofs.lemmas.List.{get_or_default, take_more}
 use Rattle.rbac_ways.specs.Ways.{AreInOrder}
 use Rattle.rbac_ways.specs.declared.graph.Stop.{Stop}
