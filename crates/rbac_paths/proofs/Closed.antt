@@ -129,7 +129,7 @@ in_either : (b : Bool) (x : RowView) (rows : List RowView) (r : RowView) → Con
 in_either true x rows r c = (suc c.0, omega (arith, c.1), c.2)
 in_either false x rows r c = c
 
-is_kept : (is : RowView → Bool) (rows : List RowView) (r : RowView) → Contains rows r → is r ≡ true → Contains (filter is rows) r
+pub is_kept : (is : RowView → Bool) (rows : List RowView) (r : RowView) → Contains rows r → is r ≡ true → Contains (filter is rows) r
 is_kept is [] r c passes = absurd (let low = c.1 in omega (arith, low))
 is_kept is (x ∷ xs) r (zero, low, e) passes =
     let here : Contains (x ∷ filter is xs) r = (0, omega arith, e) in

@@ -19,7 +19,7 @@ ok_both (Ok x) P Q R both first second = both x first second
 ok_both (Err e) P Q R both first second = tt
 
 -- what is said of each place holds with one more pushed
-pushed : {X : Type 0} (P : ℕ → NodeView → X → Type 0) (ys : List NodeView) (d : X) (xs : List X) (x : X) (count : ℕ) → length xs ≡ count
+pub pushed : {X : Type 0} (P : ℕ → NodeView → X → Type 0) (ys : List NodeView) (d : X) (xs : List X) (x : X) (count : ℕ) → length xs ≡ count
     → ((k : ℕ) (y : NodeView) → k < count → slice_get ys k ≡ Some y → P k y (get_or xs k d)) → ((y : NodeView) → slice_get ys count ≡ Some y → P count y x)
     → (k : ℕ) (y : NodeView) → k < count + 1 → slice_get ys k ≡ Some y → P k y (get_or (xs ++ x ∷ []) k d)
 pushed {X} P ys d xs x count len each last k y low at = elim (cases_lt k count) [

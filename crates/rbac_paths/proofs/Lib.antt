@@ -18,6 +18,8 @@ pub mod GivenGrants
 pub mod Giving
 pub mod GraphOf
 pub mod GraphWays
+pub mod Grants
+pub mod InScopes
 pub mod KeysApart
 pub mod Mapped
 pub mod NodeWords
@@ -43,6 +45,7 @@ pub mod Tracing
 pub mod Untold
 pub mod WaysFound
 pub mod WaysTold
+pub mod WhatDecides
 pub mod WordsAdded
 pub mod WordsOfWhom
 pub mod WordsTaken

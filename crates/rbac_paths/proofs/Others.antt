@@ -9,8 +9,9 @@ use Rattle.rbac_terms.specs.Targets.{Resource}
 use Rattle.rbac_terms.specs.Text.{Text}
 use Rattle.rbac_terms.specs.declared.matching.Rule.{Rule}
 use Rattle.rbac_model.proofs.OwnWords.{any_from}
-use Rattle.rbac_model.specs.Policies.{IsPolicy, Live, PolicyView}
-use Rattle.rbac_paths.specs.Having.{AreHoldings, HoldingView}
+use Rattle.rbac_model.specs.Policies.{Live, PolicyView}
+use Rattle.rbac_paths.specs.Deciding.{IsAnyNode}
+use Rattle.rbac_paths.specs.Having.{HoldingView}
 use Rattle.rbac_paths.specs.Joints.{AreOthers, AreOverOthers, CountsAt, DecideOn, IsAboutNode, IsNobody, IsOther, IsOverNobody, MatchesOverOthers, MayTakeBy, SomeMayTake, scope_at}
 use Rattle.rbac_paths.specs.Nodes.{NodeView, Somebody, ClusterRoleIn, OwnRole, EverythingIn}
 use Rattle.rbac_paths.specs.Rows.{AreOfStep, HasRowResource}
@@ -23,7 +24,6 @@ use Rattle.rbac_paths.specs.declared.table.Counts.{Counts}
 use Rattle.rbac_paths.specs.declared.table.Counts.TheVariants as counted
 use Rattle.rbac_paths.specs.declared.table.Over.{Over}
 use Rattle.rbac_paths.specs.declared.table.Over.TheVariants as over
-use Rattle.rbac_paths.proofs.AllowedBy.{by_holdings, in_holdings}
 
 -- what rows of a step say of a rule is what the table says
 pub may_take : (step : Step) (rows : List RowView) → AreOfStep step table rows → (rule : Rule) → Any (MatchesOverOthers rule) rows ↔ MayTakeBy rule step
@@ -34,7 +34,7 @@ may_take step rows of rule = (
 )
 
 -- a row that takes over a role or everything is over roles or everything, and the rule matches it
-over_nobody : (o : Over) (counts : Counts) (y : NodeView) (namespace own : Text) → IsNobody y → IsOver o counts y namespace own → IsOverNobody o
+pub over_nobody : (o : Over) (counts : Counts) (y : NodeView) (namespace own : Text) → IsNobody y → IsOver o counts y namespace own → IsOverNobody o
 over_nobody over.Users counts (Somebody who) namespace own nobody is = nobody
 over_nobody over.Users counts (ClusterRoleIn role scope) namespace own nobody is = is
 over_nobody over.Users counts (OwnRole role) namespace own nobody is = is
@@ -61,7 +61,7 @@ matches h y row nobody w = (
   ),
 )
 
-matches_step : (h : HoldingView) (y : NodeView) (step : Step) → IsNobody y → RuleTakes step h.home h.rule y → MayTakeBy h.rule step
+pub matches_step : (h : HoldingView) (y : NodeView) (step : Step) → IsNobody y → RuleTakes step h.home h.rule y → MayTakeBy h.rule step
 unfolding MayTakeBy
 matches_step h y step nobody a =
     any_from (λ row. (row.step ≡ step) × MatchesOverOthers h.rule row) table a.1 (a.0, a.2, a.3) (a.4.0, matches h y a.1 nobody a.4.1)
@@ -95,18 +95,11 @@ over_scope over.Everything counts (EverythingIn scope) namespace own nobody is =
 over_scope over.ClusterRoles counts (EverythingIn scope) namespace own nobody is = absurd is
 over_scope over.Roles counts (EverythingIn scope) namespace own nobody is = absurd is
 
-counts_there : (h : HoldingView) (y : NodeView) (step : Step) → IsNobody y → RuleTakes step h.home h.rule y → CountsAt (scope_at y) h
+pub counts_there : (h : HoldingView) (y : NodeView) (step : Step) → IsNobody y → RuleTakes step h.home h.rule y → CountsAt (scope_at y) h
 counts_there h y step nobody a =
     let row = a.1 in
     let w = a.4.1 in
     at_scope h.home row.counts w.namespace (scope_at y) row.group w.text w.name w.live (over_scope row.over row.counts y w.namespace w.own nobody w.over)
-
-pub some_counts : (p : PolicyView) (steps : List Step) (x : NodeView) (hs : List HoldingView) → DecideOn p steps x hs IsNobody → (y : NodeView) → IsNobody y → TakesOver p steps x y
-    → Any (CountsAt (scope_at y)) hs
-unfolding HoldingsTake HoldingTakes
-some_counts p steps x hs decide y nobody t =
-    let a = (decide t.0 y t.1.among nobody).1 t.1.can in
-    any_from (CountsAt (scope_at y)) hs a.1 (a.0, a.2, a.3) (counts_there a.1 y t.0 nobody a.4)
 
 -- those of one more holding
 module _ (steps : List Step) (hs : List HoldingView) (i : ℕ) (h : HoldingView) (low : i < length hs) (at : h ≡ get_or hs i h) (few : List HoldingView) (is : AreOverOthers steps (take i hs) few) where
@@ -135,13 +128,13 @@ module _ (steps : List Step) (hs : List HoldingView) (i : ℕ) (h : HoldingView)
   ))
 
 -- of a node's holdings those decide about roles and everything whose rules match a row over such
-pub few_decide : (p : PolicyView) → IsPolicy p → (x : NodeView) (hs : List HoldingView) → AreHoldings p x hs → (steps : List Step) (few : List HoldingView)
+pub few_decide : (p : PolicyView) (steps : List Step) (x : NodeView) (hs : List HoldingView) → DecideOn p steps x hs IsAnyNode → (few : List HoldingView)
     → AreOverOthers steps hs few
     → DecideOn p steps x few IsNobody
 unfolding HoldingsTake HoldingTakes SomeMayTake
-few_decide p ok x hs are steps few is step y among nobody = (
-  λ a. by_holdings p ok x hs are step y (any_from (λ h. RuleTakes step h.home h.rule y) hs a.1 ((is a.1).0 (a.0, a.2, a.3)).0 a.4),
-  λ c. (let w = in_holdings p ok x hs are step y c in
+few_decide p steps x hs decide few is step y among nobody = (
+  λ a. (decide step y among tt).0 (any_from (λ h. RuleTakes step h.home h.rule y) hs a.1 ((is a.1).0 (a.0, a.2, a.3)).0 a.4),
+  λ c. (let w = (decide step y among tt).1 c in
       any_from (λ h. RuleTakes step h.home h.rule y) few w.1 ((is w.1).1 ((w.0, w.2, w.3), any_from (MayTakeBy w.1.rule) steps step among (matches_step w.1 y step nobody w.4))) w.4),
 )
 

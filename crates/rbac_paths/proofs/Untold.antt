@@ -31,7 +31,7 @@ untold_too A C B D f g (OwnRole role) u = either (f None) (f (Some role.namespac
 
 module _ (p : PolicyView) (x : NodeView) (hs : List HoldingView) (steps : List Step) (y : NodeView) (decide : DecideOn p steps x hs (IsAboutNode y)) where
   -- everything in a scope
-  has_all : (scope : Option Text) → HoldingsHaveAll steps hs scope → HasAll p steps x scope
+  pub has_all : (scope : Option Text) → HoldingsHaveAll steps hs scope → HasAll p steps x scope
   unfolding HoldingsHaveAll
   has_all scope a = (a.1, a.4.0, (a.0, a.2, a.3), (decide a.1 (EverythingIn scope) (a.0, a.2, a.3) (inr tt)).0 a.4.1)
 

@@ -3,9 +3,10 @@ use Rattle.std.proofs.Common.{◌≡◌, ◌↔◌, List, [], Any, Contains, ari
 use Rattle.rbac_terms.specs.Text.{Text}
 use Rattle.rbac_terms.specs.Principals.{Who}
 use Rattle.rbac_model.proofs.OwnWords.{any_from}
-use Rattle.rbac_model.specs.Policies.{IsPolicy, PolicyView}
-use Rattle.rbac_paths.specs.Having.{AreHoldings, HoldingView}
-use Rattle.rbac_paths.specs.Joints.{TakesByWords}
+use Rattle.rbac_model.specs.Policies.{PolicyView}
+use Rattle.rbac_paths.specs.Deciding.{IsAnyNode}
+use Rattle.rbac_paths.specs.Having.{HoldingView}
+use Rattle.rbac_paths.specs.Joints.{DecideOn, TakesByWords}
 use Rattle.rbac_paths.specs.Nodes.{NodeView, Somebody}
 use Rattle.rbac_paths.specs.SharedWords.{AreHadBy, StepTakesWord, TakeWord, TakesWord}
 use Rattle.rbac_paths.specs.Steps.{table}
@@ -13,10 +14,9 @@ use Rattle.rbac_paths.specs.Taking.{RowTakes, RuleTakes}
 use Rattle.rbac_paths.specs.TakingOver.{MayGoOn, TakesOver}
 use Rattle.rbac_paths.specs.Told.{HoldingTakes, HoldingsTake}
 use Rattle.rbac_paths.specs.declared.steps.Step.{Step}
-use Rattle.rbac_paths.proofs.AllowedBy.{by_holdings, in_holdings}
 use Rattle.rbac_paths.proofs.SharedWords.{row_shares}
 
-module _ (p : PolicyView) (ok : IsPolicy p) (x : NodeView) (hs : List HoldingView) (are : AreHoldings p x hs) (steps : List Step) (who : Who) (had : List Text) (of : AreHadBy who had) where
+module _ (p : PolicyView) (x : NodeView) (hs : List HoldingView) (steps : List Step) (decide : DecideOn p steps x hs IsAnyNode) (who : Who) (had : List Text) (of : AreHadBy who had) where
   by_step : (w : Text) → Contains had w → (h : HoldingView) (s : Step) → StepTakesWord h.home h.rule w s → RuleTakes s h.home h.rule (Somebody who)
   by_step w in_had h s a = any_from (λ row. (row.step ≡ s) × RowTakes row h.home h.rule (Somebody who)) table a.1 (a.0, a.2, a.3) (a.4.0, (row_shares a.1 h.home h.rule who had of).0 (w, in_had, a.4.1))
 
@@ -26,13 +26,13 @@ module _ (p : PolicyView) (ok : IsPolicy p) (x : NodeView) (hs : List HoldingVie
       let h = a.1 in
       let s = a.4.1 in
       let takes : HoldingsTake s hs (Somebody who) = any_from (λ h. RuleTakes s h.home h.rule (Somebody who)) hs h (a.0, a.2, a.3) (by_step w in_had h s a.4.4) in
-      (s, record { goes_on = on; among = (a.4.0, a.4.2, a.4.3); can = by_holdings p ok x hs are s (Somebody who) takes; told = λ writes untold. untold })
+      (s, record { goes_on = on; among = (a.4.0, a.4.2, a.4.3); can = (decide s (Somebody who) (a.4.0, a.4.2, a.4.3) tt).0 takes; told = λ writes untold. untold })
 
   some_word : TakesOver p steps x (Somebody who) → (w : Text) × Contains had w × TakeWord steps hs w
   unfolding HoldingsTake HoldingTakes
   some_word t =
       let s = t.0 in
-      let held = in_holdings p ok x hs are s (Somebody who) t.1.can in
+      let held = (decide s (Somebody who) t.1.among tt).1 t.1.can in
       let h = held.1 in
       let rule = held.4 in
       let row = rule.1 in
@@ -42,10 +42,10 @@ module _ (p : PolicyView) (ok : IsPolicy p) (x : NodeView) (hs : List HoldingVie
       let by_steps = any_from (StepTakesWord h.home h.rule w) steps s t.1.among by_row in
       (w, shares.1, any_from (λ h. Any (StepTakesWord h.home h.rule w) steps) hs h (held.0, held.2, held.3) by_steps)
 
-pub takes_by_words : (p : PolicyView) → IsPolicy p → (x : NodeView) (hs : List HoldingView) → AreHoldings p x hs → (steps : List Step) → ((who : Who) → MayGoOn x (Somebody who)) → (ws : List Text) → ((w : Text) → Contains ws w ↔ TakeWord steps hs w) → TakesByWords p steps x ws
-takes_by_words p ok x hs are steps on ws exact who had of = (
-  λ s. by_word p ok x hs are steps who had of s.0 s.2 (on who) ((exact s.0).0 s.1),
-  λ t. (let w = some_word p ok x hs are steps who had of t in (w.0, (exact w.0).1 w.2, w.1)),
+pub takes_by_words : (p : PolicyView) (x : NodeView) (hs : List HoldingView) (steps : List Step) → DecideOn p steps x hs IsAnyNode → ((who : Who) → MayGoOn x (Somebody who)) → (ws : List Text) → ((w : Text) → Contains ws w ↔ TakeWord steps hs w) → TakesByWords p steps x ws
+takes_by_words p x hs steps decide on ws exact who had of = (
+  λ s. by_word p x hs steps decide who had of s.0 s.2 (on who) ((exact s.0).0 s.1),
+  λ t. (let w = some_word p x hs steps decide who had of t in (w.0, (exact w.0).1 w.2, w.1)),
 )
 
 pub takes_none : (p : PolicyView) (x : NodeView) (steps : List Step) → ((who : Who) → MayGoOn x (Somebody who) → ⊥) → TakesByWords p steps x []

@@ -74,6 +74,11 @@ scope_at (EverythingIn scope) = scope
 abbrev pub CountsAt : Option Text → HoldingView → Type 0
 CountsAt scope h = (h.home ≡ None) ⊎ (h.home ≡ scope)
 
+-- each role, and everything in a namespace, that x takes over is where some of these holdings counts
+abbrev pub AreScoped : PolicyView → List Step → NodeView → List HoldingView → Type 0
+AreScoped p steps x hs = (y : NodeView) → IsNobody y → ¬ (y ≡ EverythingIn None) → TakesOver p steps x y
+    → Any (CountsAt (scope_at y)) hs
+
 -- of the nodes that this is about, these holdings take over by one of the steps what x takes over
 abbrev pub DecideOn : PolicyView → List Step → NodeView → List HoldingView → (NodeView → Type 0)
     → Type 0

@@ -3,6 +3,7 @@ pub mod AddingNodes
 pub mod Aims
 pub mod Asked
 pub mod BoundNames
+pub mod Deciding
 pub mod Finding
 pub mod Having
 pub mod Joints

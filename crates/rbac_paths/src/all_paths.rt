@@ -1,7 +1,7 @@
 //! Whom and what somebody comes to.
 
 ghost use Rattle.std.specs.Prelude.{◌≡◌, ◌↔◌, ℕ, All, AllPairs, Contains, IfOk, IsTrue};
-ghost use Rattle.std.specs.Prelude.{MatchOption, map};
+ghost use Rattle.std.specs.Prelude.{MatchOption, length, map};
 ghost use Rattle.std.specs.declared.cmp.Ordering.TheVariants.{Less};
 ghost use Rattle.rbac_terms.specs.Text.{text_cmp};
 ghost use Rattle.rbac_model.specs.Lists.{IsAscendingBy};
@@ -9,6 +9,7 @@ ghost use Rattle.rbac_model.specs.Policies.{IsPolicy};
 ghost use Rattle.rbac_model.specs.Unions.{who_name};
 ghost use Rattle.rbac_ways.specs.Ways.{AreInOrder};
 ghost use Rattle.rbac_paths.specs.Aims.{ToTakeOver};
+ghost use Rattle.rbac_paths.specs.Deciding.{AreNumbers, AreNumbersOf};
 ghost use Rattle.rbac_paths.specs.Having.{rule_of_all};
 ghost use Rattle.rbac_paths.specs.NodeLists.{node_text};
 ghost use Rattle.rbac_paths.specs.Nodes.{node_of};
@@ -19,19 +20,19 @@ ghost use Rattle.rbac_paths.specs.Told.{HasItsRole, IsFirstTold};
 ghost use Rattle.rbac_paths.specs.Tracing.{AreLinked, ArePathsAt, HasKeyAt, HasKeyOf};
 ghost use Rattle.rbac_paths.specs.Tracing.{IsPathAt, IsUnled};
 
-use crate::aim::Aim;
 use crate::bound_names::bound_names;
+use crate::deciding::{deciding_holdings, listed_at, numbers_of_nodes};
 use crate::graph::graph_of;
-use crate::holding::{holdings_of, rule_of_all};
+use crate::holding::rule_of_all;
 use crate::node::Node;
 use crate::nodes::nodes_of;
 use crate::principals::principals_with;
-use crate::reason::{Reason, reason_of};
+use crate::reason::{Reason, reason_by};
 use crate::steps::Step;
 use crate::told::{StepRows, first_told, rows_of_steps};
 use rbac_model::Policy;
 use rbac_subjects::SubjectIndex;
-use rbac_terms::{Principal, Rule};
+use rbac_terms::{Items, Principal, Rule};
 use rbac_ways::{Reached, Stop, shortest_ways};
 use std::alloc::{AllocError, Global};
 use std::marker::Model;
@@ -90,7 +91,15 @@ pub fn paths<'p>(
     let all = principals_with(alloc, principals, who)?;
     let names = bound_names(alloc, policy)?;
     let nodes = nodes_of(alloc, policy, all.as_slice(), names.as_slice())?;
-    let graph = graph_of(alloc, policy, index, rows.as_slice(), nodes.as_slice())?;
+    let numbers = numbers_of_nodes(alloc, policy, index, rows.as_slice(), nodes.as_slice())?;
+    let graph = graph_of(
+        alloc,
+        policy,
+        index,
+        rows.as_slice(),
+        nodes.as_slice(),
+        numbers.as_slice(),
+    )?;
     let starts = places_of(alloc, nodes.as_slice(), who)?;
     let reached = shortest_ways(alloc, &graph, starts.as_slice())?;
     paths_by(
@@ -99,6 +108,7 @@ pub fn paths<'p>(
         index,
         rows.as_slice(),
         nodes.as_slice(),
+        numbers.as_slice(),
         &reached,
     )
 }
@@ -134,11 +144,13 @@ fn paths_by<'p>(
     index: &SubjectIndex<'p>,
     steps: &[StepRows],
     nodes: &[Node<'p>],
+    numbers: &[Items<u32>],
     reached: &Reached,
 ) -> Result<Vec<Path<'p>>, AllocError>
     requires policy { IsPolicy policy.now }
     requires index { index.now ≡ policy.now }
     requires held { All (HasItsRole policy.now.held) (map node_of nodes.now) }
+    requires numbers { AreNumbers policy.now steps.now (map node_of nodes.now) (length nodes.now) numbers.now }
     requires ordered { AllPairs (λ y z. text_cmp (node_text y) (node_text z) ≡ Less)
         (map node_of nodes.now) }
     requires linked { AreLinked policy.now steps.now (map node_of nodes.now) reached.now.stops.items }
@@ -150,7 +162,9 @@ fn paths_by<'p>(
     let stops = reached.stops.as_slice();
     let mut paths = Vec::new(alloc);
     for place in reached.order.as_slice() {
-        if let Some(path) = path_at(alloc, policy, index, &all, steps, nodes, stops, *place)? {
+        if let Some(path) = path_at(
+            alloc, policy, index, &all, steps, nodes, numbers, stops, *place,
+        )? {
             paths.push(path)?;
         }
     }
@@ -165,6 +179,7 @@ fn path_at<'p>(
     all: &Rule,
     steps: &[StepRows],
     nodes: &[Node<'p>],
+    numbers: &[Items<u32>],
     stops: &[Option<Stop>],
     place: usize,
 ) -> Result<Option<Path<'p>>, AllocError>
@@ -172,6 +187,7 @@ fn path_at<'p>(
     requires index { index.now ≡ policy.now }
     requires all { all.now ≡ rule_of_all }
     requires held { All (HasItsRole policy.now.held) (map node_of nodes.now) }
+    requires numbers { AreNumbers policy.now steps.now (map node_of nodes.now) (length nodes.now) numbers.now }
     requires linked { AreLinked policy.now steps.now (map node_of nodes.now) stops.now }
     ensures { IfOk result (λ path. MatchOption path (IsUnled stops.now place)
         (IsPathAt policy.now steps.now (map node_of nodes.now) stops.now place)) }
@@ -188,7 +204,9 @@ fn path_at<'p>(
     let Some(node) = nodes.get(place) else {
         return Ok(None);
     };
-    let Some((step, reason)) = last_step(alloc, policy, index, all, steps, *before, *node)? else {
+    let own = listed_at(numbers, stop.before);
+    let Some((step, reason)) = last_step(alloc, policy, index, all, steps, *before, own, *node)?
+    else {
         return Ok(None);
     };
     Ok(Some(Path {
@@ -201,7 +219,7 @@ fn path_at<'p>(
 }
 
 // The first of these steps by which a node takes over another, as is told, and why it is one; `None`
-// if there is none.
+// if there is none. The grants with these numbers decide what the first one takes over.
 pub(crate) fn last_step<'p>(
     alloc: Global,
     policy: &'p Policy,
@@ -209,22 +227,24 @@ pub(crate) fn last_step<'p>(
     all: &Rule,
     steps: &[StepRows],
     from: Node<'p>,
+    numbers: &[u32],
     to: Node<'_>,
 ) -> Result<Option<(Step, Reason<'p>)>, AllocError>
     requires policy { IsPolicy policy.now }
     requires index { index.now ≡ policy.now }
     requires all { all.now ≡ rule_of_all }
     requires role { HasItsRole policy.now.held (node_of from) }
+    requires numbers { AreNumbersOf policy.now steps.now (node_of from) numbers.now }
     ensures { IfOk result (λ told. MatchOption told
         (¬ TakesOver policy.now steps.now (node_of from.entry) (node_of to.entry))
         (λ t. IsFirstTold policy.now steps.now (node_of from.entry) (node_of to.entry) t.0
         × IsReason policy.now (node_of from.entry) (ToTakeOver t.0 (node_of to.entry))
         (reason_view t.1))) }
 {
-    let Some(rows) = first_step(alloc, policy, index, all, steps, from, to)? else {
+    let Some(rows) = first_step(alloc, policy, index, all, steps, from, numbers, to)? else {
         return Ok(None);
     };
-    let Some(reason) = reason_of(alloc, policy, index, from, Aim::TakeOver(rows, to))? else {
+    let Some(reason) = reason_by(alloc, policy, index, from, numbers, rows, to)? else {
         return Ok(None);
     };
     Ok(Some((rows.step(), reason)))
@@ -238,17 +258,19 @@ fn first_step<'s>(
     all: &Rule,
     steps: &'s [StepRows],
     from: Node<'_>,
+    numbers: &[u32],
     to: Node<'_>,
 ) -> Result<Option<&'s StepRows>, AllocError>
     requires policy { IsPolicy policy.now }
     requires index { index.now ≡ policy.now }
     requires all { all.now ≡ rule_of_all }
     requires role { HasItsRole policy.now.held (node_of from) }
+    requires numbers { AreNumbersOf policy.now steps.now (node_of from) numbers.now }
     ensures { IfOk result (λ told. MatchOption told
         (¬ TakesOver policy.now steps.now (node_of from.entry) (node_of to.entry))
         (λ rows.
         IsFirstTold policy.now steps.now (node_of from.entry) (node_of to.entry) rows.now)) }
 {
-    let holdings = holdings_of(alloc, policy, index, all, from)?;
+    let holdings = deciding_holdings(alloc, policy, index, all, from, numbers)?;
     Ok(first_told(steps, holdings.as_slice(), from, to))
 }

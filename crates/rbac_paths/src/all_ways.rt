@@ -1,7 +1,7 @@
 //! The ways to what is asked for.
 
 ghost use Rattle.std.specs.Prelude.{◌≡◌, ◌≢◌, ◌↔◌, ℕ, All, AllPairs, Any, Contains, IfOk, IsTrue};
-ghost use Rattle.std.specs.Prelude.{IsSome, MatchOption, None, map, slice_index_or};
+ghost use Rattle.std.specs.Prelude.{IsSome, MatchOption, None, length, map, slice_index_or};
 ghost use Rattle.std.specs.declared.cmp.Ordering.TheVariants.{Less};
 ghost use Rattle.rbac_terms.specs.Principals.{who_key};
 ghost use Rattle.rbac_terms.specs.Text.{text_cmp};
@@ -11,6 +11,7 @@ ghost use Rattle.rbac_model.specs.Unions.{who_name};
 ghost use Rattle.rbac_ways.specs.Ways.{AreInOrder};
 ghost use Rattle.rbac_paths.specs.Access.{AllowsAccess, access_of};
 ghost use Rattle.rbac_paths.specs.Aims.{Serves, ToBeAllowed};
+ghost use Rattle.rbac_paths.specs.Deciding.{AreNumbers};
 ghost use Rattle.rbac_paths.specs.Having.{rule_of_all};
 ghost use Rattle.rbac_paths.specs.NodeLists.{node_text};
 ghost use Rattle.rbac_paths.specs.Nodes.{node_of};
@@ -24,6 +25,7 @@ use crate::access::Access;
 use crate::aim::Aim;
 use crate::all_paths::last_step;
 use crate::bound_names::bound_names;
+use crate::deciding::{listed_at, numbers_of_nodes};
 use crate::graph::graph_of;
 use crate::holding::{Holding, holdings_of, rule_of_all};
 use crate::node::Node;
@@ -33,7 +35,7 @@ use crate::steps::Step;
 use crate::told::{StepRows, rows_of_steps};
 use rbac_model::Policy;
 use rbac_subjects::SubjectIndex;
-use rbac_terms::{Principal, Rule};
+use rbac_terms::{Items, Principal, Rule};
 use rbac_ways::{Reached, Stop, shortest_ways};
 use std::alloc::{AllocError, Global};
 use std::marker::Model;
@@ -96,25 +98,22 @@ pub fn ways_to<'p>(
         AreWaysTo policy.now principals.now steps.now (access_of access.entry) found.items) }
 {
     let rows = rows_of_steps(alloc, steps)?;
+    let rows = rows.as_slice();
     let all = each_of(alloc, principals)?;
     let names = bound_names(alloc, policy)?;
     let nodes = nodes_of(alloc, policy, all.as_slice(), names.as_slice())?;
     let nodes = nodes.as_slice();
-    let graph = graph_of(alloc, policy, index, rows.as_slice(), nodes)?;
+    let numbers = numbers_of_nodes(alloc, policy, index, rows, nodes)?;
+    let numbers = numbers.as_slice();
+    let graph = graph_of(alloc, policy, index, rows, nodes, numbers)?;
     let starts = places_of_somebody(alloc, nodes)?;
     let come = shortest_ways(alloc, &graph, starts.as_slice())?;
     let ends = places_of_allowing(alloc, policy, index, nodes, access)?;
     let back = graph.turned(alloc)?;
     let reached = shortest_ways(alloc, &back, ends.as_slice())?;
+    let come = come.stops.as_slice();
     ways_by(
-        alloc,
-        policy,
-        index,
-        rows.as_slice(),
-        access,
-        nodes,
-        come.stops.as_slice(),
-        &reached,
+        alloc, policy, index, rows, access, nodes, numbers, come, &reached,
     )
 }
 
@@ -212,12 +211,15 @@ fn ways_by<'p>(
     steps: &[StepRows],
     access: Access<'_>,
     nodes: &[Node<'p>],
+    numbers: &[Items<u32>],
     come: &[Option<Stop>],
     reached: &Reached,
 ) -> Result<Vec<Way<'p>>, AllocError>
     requires policy { IsPolicy policy.now }
     requires index { index.now ≡ policy.now }
     requires held { All (HasItsRole policy.now.held) (map node_of nodes.now) }
+    requires numbers { AreNumbers policy.now steps.now (map node_of nodes.now) (length nodes.now)
+        numbers.now }
     requires ordered { AllPairs (λ y z. text_cmp (node_text y) (node_text z) ≡ Less)
         (map node_of nodes.now) }
     requires linked { AreLinkedOn policy.now steps.now (map node_of nodes.now)
@@ -234,7 +236,7 @@ fn ways_by<'p>(
     for place in reached.order.as_slice() {
         let way = if is_met(come, *place) {
             way_at(
-                alloc, policy, index, &all, steps, access, nodes, stops, *place,
+                alloc, policy, index, &all, steps, access, nodes, numbers, stops, *place,
             )?
         } else {
             None
@@ -262,6 +264,7 @@ fn way_at<'p>(
     steps: &[StepRows],
     access: Access<'_>,
     nodes: &[Node<'p>],
+    numbers: &[Items<u32>],
     stops: &[Option<Stop>],
     place: usize,
 ) -> Result<Option<Way<'p>>, AllocError>
@@ -269,6 +272,8 @@ fn way_at<'p>(
     requires index { index.now ≡ policy.now }
     requires all { all.now ≡ rule_of_all }
     requires held { All (HasItsRole policy.now.held) (map node_of nodes.now) }
+    requires numbers { AreNumbers policy.now steps.now (map node_of nodes.now) (length nodes.now)
+        numbers.now }
     requires linked { AreLinkedOn policy.now steps.now (map node_of nodes.now) stops.now }
     requires ends { AreEnds policy.now (access_of access) (map node_of nodes.now) stops.now }
     ensures { IfOk result (λ way. MatchOption way (slice_index_or stops.now place None ≡ None)
@@ -286,7 +291,9 @@ fn way_at<'p>(
     let Some(next) = nodes.get(stop.before) else {
         return Ok(None);
     };
-    let Some((step, reason)) = last_step(alloc, policy, index, all, steps, *node, *next)? else {
+    let own = listed_at(numbers, place);
+    let Some((step, reason)) = last_step(alloc, policy, index, all, steps, *node, own, *next)?
+    else {
         return Ok(None);
     };
     let node = *node;

@@ -51,14 +51,14 @@ fn add_of_rule(rows: &[WordRow], rule: &Rule, names: &mut Vec<Word>) -> Result<(
     requires { AreOfStep Bind table rows.now }
     ensures { OnOk result (AddsWords (BindsNamed rule.now) names.old.items names.new.items) }
 {
-    if lets_bind(rows, rule) {
+    if matches_some(rows, rule) {
         names.extend_with_clones(rule.resource_names.as_slice())?;
     }
     Ok(())
 }
 
 // Whether the rule matches some of these rows.
-fn lets_bind(rows: &[WordRow], rule: &Rule) -> bool
+pub(crate) fn matches_some(rows: &[WordRow], rule: &Rule) -> bool
     ensures { IsTrue result ↔ Any (λ row. MatchesRow row rule.now) rows.now }
 {
     rows.iter().any(|row| row.matches(rule))

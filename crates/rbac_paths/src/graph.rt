@@ -1,24 +1,27 @@
 //! The graph of nodes: an edge leads from each node to each that it takes over.
 
-ghost use Rattle.std.specs.Prelude.{◌≡◌, ◌↔◌, All, Any, IfOk, IsTrue, length, map};
+ghost use Rattle.std.specs.Prelude.{◌≡◌, ◌↔◌, ◌⊎◌, ◌∷◌, [], None, All, Any, IfOk, IsTrue, length, map};
 ghost use Rattle.std.specs.Option.{option_copied};
 ghost use Rattle.rbac_terms.specs.Principals.{Who};
 ghost use Rattle.rbac_model.specs.Policies.{IsPolicy, PolicyView};
-ghost use Rattle.rbac_paths.specs.Having.{AreHoldings};
-ghost use Rattle.rbac_paths.specs.Joints.{AreHad, AreOthers, AreOverOthers, CountsAt, DecideOn, IsHadBy};
+ghost use Rattle.rbac_paths.specs.Deciding.{AreNumbers, IsAnyNode};
+ghost use Rattle.rbac_paths.specs.Joints.{AreHad, AreOthers, AreOverOthers, AreScoped, CountsAt, DecideOn, IsHadBy};
 ghost use Rattle.rbac_paths.specs.Joints.{IsNobody, IsOverNobody, MatchesOverOthers, MayTakeBy};
 ghost use Rattle.rbac_paths.specs.Joints.{SomeMayTake, scope_at};
 ghost use Rattle.rbac_paths.specs.Joints.{TakesByWords};
-ghost use Rattle.rbac_paths.specs.Nodes.{Somebody, node_of};
+ghost use Rattle.rbac_paths.specs.Nodes.{EverythingIn, NodeView, Somebody, node_of};
 ghost use Rattle.rbac_paths.specs.Paths.{IsGraphOf};
 ghost use Rattle.rbac_paths.specs.TakingOver.{MayGoOn, TakesOver};
 ghost use Rattle.rbac_paths.specs.Told.{HasItsRole};
+ghost use Rattle.rbac_paths.specs.declared.steps.Step.TheVariants.{Bind, Escalate};
 
-use crate::holding::{Holding, holdings_of, rule_of_all};
+use crate::deciding::{deciding_holdings, listed_at};
+use crate::holding::{Holding, rule_of_all};
 use crate::node::Node;
 use crate::rows::WordRow;
+use crate::steps::Step;
 use crate::table::Over;
-use crate::told::{StepRows, first_told};
+use crate::told::{StepRows, first_told, has_all, rows_of_steps};
 use crate::words::{taken_words, words_of_whom};
 use rbac_model::Policy;
 use rbac_subjects::SubjectIndex;
@@ -28,39 +31,45 @@ use std::alloc::{AllocError, Global};
 
 /// The graph of these nodes, by these steps. Users and groups are joined by the words that they share
 /// with who takes them over, so that many who take many are written once; roles and everything are
-/// asked for one by one.
+/// asked for one by one. The numbers are those of the grants that decide what each node takes over.
 pub(crate) fn graph_of<'p>(
     alloc: Global,
     policy: &'p Policy,
     index: &SubjectIndex<'p>,
     steps: &[StepRows],
     nodes: &[Node<'p>],
+    numbers: &[Items<u32>],
 ) -> Result<Graph, AllocError>
     requires policy { IsPolicy policy.now }
     requires index { index.now ≡ policy.now }
     requires held { All (HasItsRole policy.now.held) (map node_of nodes.now) }
+    requires numbers { AreNumbers policy.now steps.now (map node_of nodes.now) (length nodes.now) numbers.now }
     ensures { IfOk result (λ g. IsGraphOf policy.now steps.now (map node_of nodes.now) g) }
 {
     let all = rule_of_all(alloc)?;
+    let rows = rows_of_steps(alloc, &[Step::Bind, Step::Escalate])?;
+    let writing = rows.as_slice();
     let mut takes = Vec::with_capacity(alloc, nodes.len())?;
     let mut also = Vec::with_capacity(alloc, nodes.len())?;
-    for node in nodes {
-        let holdings = holdings_of(alloc, policy, index, &all, *node)?;
+    for (place, node) in nodes.iter().enumerate() {
+        let own = listed_at(numbers, place);
+        let holdings = deciding_holdings(alloc, policy, index, &all, *node, own)?;
         takes.push(words_taken(alloc, steps, holdings.as_slice(), *node)?)?;
-        also.push(others_taken(alloc, steps, holdings.as_slice(), *node, nodes)?)?;
+        also.push(others_taken(alloc, steps, writing, holdings.as_slice(), *node, nodes)?)?;
     }
     let had_by = words_of_nodes(alloc, nodes)?;
     Graph::joined(alloc, takes.as_slice(), had_by.as_slice(), also.as_slice())
 }
 
-// The words that a node takes; it has exactly these holdings.
+// The words that a node takes; these holdings decide that.
 fn words_taken(
     alloc: Global,
     steps: &[StepRows],
     holdings: &[Holding<'_>],
     node: Node<'_>,
 ) -> Result<Words, AllocError>
-    ensures { (p : PolicyView) → IsPolicy p → AreHoldings p (node_of node.entry) holdings.now
+    ensures { (p : PolicyView)
+        → DecideOn p steps.now (node_of node.entry) holdings.now IsAnyNode
         → IfOk result (λ ws. TakesByWords p steps.now (node_of node.entry) ws) }
 {
     if goes_further(node) {
@@ -77,16 +86,19 @@ fn goes_further(node: Node<'_>) -> bool
     !matches!(node, Node::Everything(None))
 }
 
-// The places of the roles among these nodes, and of everything, that a node takes over; it has exactly
-// these holdings.
+// The places of the roles among these nodes, and of everything, that a node takes over; these holdings
+// decide that. The steps by which one writes are given.
 fn others_taken(
     alloc: Global,
     steps: &[StepRows],
+    writing: &[StepRows],
     holdings: &[Holding<'_>],
     from: Node<'_>,
     nodes: &[Node<'_>],
 ) -> Result<Items<usize>, AllocError>
-    ensures { (p : PolicyView) → IsPolicy p → AreHoldings p (node_of from.entry) holdings.now
+    requires { writing.now ≡ Bind ∷ Escalate ∷ [] }
+    ensures { (p : PolicyView)
+        → DecideOn p steps.now (node_of from.entry) holdings.now IsAnyNode
         → IfOk result
         (λ js. AreOthers p steps.now (node_of from.entry) (map node_of nodes.now) js) }
 {
@@ -95,7 +107,27 @@ fn others_taken(
     if few.is_empty() {
         return Ok(Items::new(alloc));
     }
-    others_among(alloc, steps, few, from, nodes)
+    let scoped = scoped(alloc, steps, writing, few)?;
+    others_among(alloc, steps, few, scoped.as_slice(), from, nodes)
+}
+
+// Those of the holdings in whose scopes a node may take over roles, and everything in a namespace. Only
+// by writing does it take over such, and none if it takes over everything in the cluster so. Most rules
+// that are over everything are over that of the cluster alone.
+fn scoped<'p>(
+    alloc: Global,
+    steps: &[StepRows],
+    writing: &[StepRows],
+    holdings: &[Holding<'p>],
+) -> Result<Vec<Holding<'p>>, AllocError>
+    requires { writing.now ≡ Bind ∷ Escalate ∷ [] }
+    ensures { (p : PolicyView) (x : NodeView) → DecideOn p steps.now x holdings.now IsNobody
+        → IfOk result (λ few. AreScoped p steps.now x few.items) }
+{
+    if has_all(steps, holdings, None) {
+        return Ok(Vec::new(alloc));
+    }
+    over_others(alloc, writing, holdings)
 }
 
 // The same, where each of the nodes is asked for.
@@ -103,17 +135,19 @@ fn others_among(
     alloc: Global,
     steps: &[StepRows],
     holdings: &[Holding<'_>],
+    scoped: &[Holding<'_>],
     from: Node<'_>,
     nodes: &[Node<'_>],
 ) -> Result<Items<usize>, AllocError>
     ensures { (p : PolicyView)
         → DecideOn p steps.now (node_of from.entry) holdings.now IsNobody
+        → AreScoped p steps.now (node_of from.entry) scoped.now
         → IfOk result
         (λ js. AreOthers p steps.now (node_of from.entry) (map node_of nodes.now) js) }
 {
     let mut others = Vec::new(alloc);
     for (place, to) in nodes.iter().enumerate() {
-        if takes_other(steps, holdings, from, *to) {
+        if takes_other(steps, holdings, scoped, from, *to) {
             others.push(place)?;
         }
     }
@@ -121,24 +155,53 @@ fn others_among(
 }
 
 // Whether a node takes over another that is a role or everything; these holdings decide that.
-fn takes_other(steps: &[StepRows], holdings: &[Holding<'_>], from: Node<'_>, to: Node<'_>) -> bool
+fn takes_other(
+    steps: &[StepRows],
+    holdings: &[Holding<'_>],
+    scoped: &[Holding<'_>],
+    from: Node<'_>,
+    to: Node<'_>,
+) -> bool
     ensures { (p : PolicyView)
         → DecideOn p steps.now (node_of from.entry) holdings.now IsNobody
+        → AreScoped p steps.now (node_of from.entry) scoped.now
         → IsTrue result ↔ (IsNobody (node_of to.entry)
         × TakesOver p steps.now (node_of from.entry) (node_of to.entry)) }
 {
-    is_nobody(to) && takes_nobody(steps, holdings, from, to)
+    is_nobody(to) && takes_nobody(steps, holdings, scoped, from, to)
 }
 
 // Whether a node takes over a role, or everything; these holdings decide that. Where they count is
 // asked first, since in most scopes none does.
-fn takes_nobody(steps: &[StepRows], holdings: &[Holding<'_>], from: Node<'_>, to: Node<'_>) -> bool
+fn takes_nobody(
+    steps: &[StepRows],
+    holdings: &[Holding<'_>],
+    scoped: &[Holding<'_>],
+    from: Node<'_>,
+    to: Node<'_>,
+) -> bool
     ensures { (p : PolicyView)
         → DecideOn p steps.now (node_of from.entry) holdings.now IsNobody
+        → AreScoped p steps.now (node_of from.entry) scoped.now
         → IsNobody (node_of to.entry)
         → IsTrue result ↔ TakesOver p steps.now (node_of from.entry) (node_of to.entry) }
 {
-    count_at(holdings, scope_at(to)) && first_told(steps, holdings, from, to).is_some()
+    may_take(scoped, to) && first_told(steps, holdings, from, to).is_some()
+}
+
+// Whether a node is everything in the cluster, or some of these holdings counts where it is.
+fn may_take(scoped: &[Holding<'_>], to: Node<'_>) -> bool
+    ensures { IsTrue result ↔ ((node_of to.entry ≡ EverythingIn None)
+        ⊎ Any (CountsAt (scope_at (node_of to.entry))) scoped.now) }
+{
+    is_whole(to) || count_at(scoped, scope_at(to))
+}
+
+// Whether a node is everything in the cluster.
+fn is_whole(node: Node<'_>) -> bool
+    ensures { IsTrue result ↔ (node_of node.entry ≡ EverythingIn None) }
+{
+    matches!(node, Node::Everything(None))
 }
 
 // Where a role is, or everything.

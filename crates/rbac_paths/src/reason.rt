@@ -1,18 +1,22 @@
 //! Why a node can take over another, or is allowed what is asked for.
 
-ghost use Rattle.std.specs.Prelude.{◌≡◌, ◌≤◌, Any, Contains, IfOk, MatchOption, length};
+ghost use Rattle.std.specs.Prelude.{◌≡◌, ◌≤◌, ◌<◌, ◌↔◌, All, Any, Contains, IfOk, IsSomeAnd, IsTrue, List, MatchOption};
+ghost use Rattle.std.specs.Prelude.{◌++◌, ◌∷◌, [], length, ℕ};
 ghost use Rattle.std.specs.Option.{option_copied};
 ghost use Rattle.rbac_model.specs.Lists.{IsFirstAt};
-ghost use Rattle.rbac_model.specs.Policies.{IsPolicy};
-ghost use Rattle.rbac_paths.specs.Aims.{Attains, GrantServes, Serves, aim_of};
+ghost use Rattle.rbac_model.specs.Policies.{GrantView, IsPolicy};
+ghost use Rattle.rbac_paths.specs.Aims.{AimView, Attains, GrantServes, Serves, ToTakeOver, aim_of};
+ghost use Rattle.rbac_paths.specs.Deciding.{AreNumbersOf, AreTakingNumbers, IsLeastTaking};
 ghost use Rattle.rbac_paths.specs.Nodes.{ClusterRoleIn, OwnRole, Somebody, node_of};
 ghost use Rattle.rbac_paths.specs.Reasons.{AnswersFirstIn, AnswersFirstServing, IsReason, reason_view};
 ghost use Rattle.rbac_paths.specs.Told.{HasItsRole};
+ghost use Rattle.rbac_paths.specs.declared.steps.Step.{Step};
 ghost use Rattle.rbac_terms.specs.declared.matching.Rule.{Rule};
 
 use crate::aim::Aim;
 use crate::holding::{Holding, sources_of};
 use crate::node::Node;
+use crate::told::StepRows;
 use rbac_model::{Grant, Policy, SourceRole, naming_place};
 use rbac_subjects::SubjectIndex;
 use rbac_terms::{ClusterRole, Principal, Role, Rules, Word};
@@ -54,6 +58,100 @@ pub(crate) fn reason_of<'p>(
     }
 }
 
+/// Why a node takes over another by the step of these rows, where the grants with these numbers are
+/// somebody's that match rows of some steps, this one among them.
+pub(crate) fn reason_by<'p>(
+    alloc: Global,
+    policy: &'p Policy,
+    index: &SubjectIndex<'p>,
+    from: Node<'p>,
+    numbers: &[u32],
+    rows: &StepRows,
+    to: Node<'_>,
+) -> Result<Option<Reason<'p>>, AllocError>
+    requires policy { IsPolicy policy.now }
+    requires index { index.now ≡ policy.now }
+    requires role { HasItsRole policy.now.held (node_of from) }
+    requires within { All (λ n. n < length policy.now.grants) numbers.now }
+    ensures { (steps : List Step) → Contains steps rows.now
+        → AreNumbersOf policy.now steps (node_of from.entry) numbers.now
+        → IfOk result (λ r. MatchOption r
+        (¬ Attains policy.now (node_of from.entry) (ToTakeOver rows.now (node_of to.entry)))
+        (λ r. IsReason policy.now (node_of from.entry) (ToTakeOver rows.now (node_of to.entry))
+        (reason_view r))) }
+{
+    match from {
+        Node::Somebody(who) => Ok(by_numbers(policy, numbers, rows, who, to)),
+        _ => reason_of(alloc, policy, index, from, Aim::TakeOver(rows, to)),
+    }
+}
+
+// The grant among these by which somebody takes over a node.
+fn by_numbers<'p>(
+    policy: &'p Policy,
+    numbers: &[u32],
+    rows: &StepRows,
+    who: &Principal,
+    to: Node<'_>,
+) -> Option<Reason<'p>>
+    requires policy { IsPolicy policy.now }
+    requires within { All (λ n. n < length policy.now.grants) numbers.now }
+    ensures { (steps : List Step) → Contains steps rows.now
+        → AreTakingNumbers policy.now steps who.now numbers.now
+        → MatchOption result
+        (¬ Attains policy.now (Somebody who.now) (ToTakeOver rows.now (node_of to.entry)))
+        (λ r. IsReason policy.now (Somebody who.now) (ToTakeOver rows.now (node_of to.entry))
+        (reason_view r)) }
+{
+    let no = least_taking(policy, numbers, rows, to)?;
+    by_number(policy, who, no)
+}
+
+// The least of these numbers of grants whose rules take over a node.
+fn least_taking(policy: &Policy, numbers: &[u32], rows: &StepRows, to: Node<'_>) -> Option<u32>
+    requires { All (λ n. n < length policy.now.grants) numbers.now }
+    ensures { IsLeastTaking policy.now rows.now (node_of to.entry) numbers.now result }
+{
+    let mut least = None;
+    for no in numbers {
+        least = lesser_taking(policy, least, *no, rows, to);
+    }
+    least
+}
+
+// The least so far, or this number, if it is less and the grant's rule takes over the node.
+fn lesser_taking(
+    policy: &Policy,
+    least: Option<u32>,
+    no: u32,
+    rows: &StepRows,
+    to: Node<'_>,
+) -> Option<u32>
+    requires { no < length policy.now.grants }
+    ensures { (numbers : List ℕ)
+        → IsLeastTaking policy.now rows.now (node_of to.entry) numbers least
+        → IsLeastTaking policy.now rows.now (node_of to.entry) (numbers ++ no ∷ []) result }
+{
+    if !is_less(no, least) {
+        return least;
+    }
+    if rows.is_taken_by(&Holding::by(policy.grant(no)), to) {
+        Some(no)
+    } else {
+        least
+    }
+}
+
+// Whether the number is less than the other, if that is there.
+fn is_less(number: u32, other: Option<u32>) -> bool
+    ensures { IsTrue result ↔ MatchOption other (Unit {0}) (λ n. number < n) }
+{
+    match other {
+        Some(other) => number < other,
+        None => true,
+    }
+}
+
 // The grant by which somebody can.
 fn by_grant<'p>(
     policy: &'p Policy,
@@ -68,6 +166,16 @@ fn by_grant<'p>(
         (λ r. IsReason policy.now (Somebody who.now) (aim_of aim.entry) (reason_view r)) }
 {
     let no = first_serving(policy, index, who, aim)?;
+    by_number(policy, who, no)
+}
+
+// The grant with this number, by which somebody can, and the subject that names them.
+fn by_number<'p>(policy: &'p Policy, who: &Principal, no: u32) -> Option<Reason<'p>>
+    requires { no < length policy.now.grants }
+    ensures { (aim : AimView) (g : GrantView)
+        → IsFirstAt (GrantServes aim who.now) policy.now.grants no g
+        → IsSomeAnd result (λ r. IsReason policy.now (Somebody who.now) aim (reason_view r)) }
+{
     let grant = policy.grant(no);
     let subject = naming_place(grant.binding, who)?;
     Some(Reason::Grant(grant, subject))

@@ -142,11 +142,12 @@ impl WordRow {
         }
     }
 
-    // Whether the rule matches a verb, the API group and a resource of the row.
+    // Whether the rule matches a verb, the API group and a resource of the row. Most rules are of one
+    // group, and so refused by that first.
     pub(crate) fn matches(&self, rule: &Rule) -> bool
         ensures { IsTrue result ↔ MatchesRow self.now rule.now }
     {
-        self.has_verb_of(rule) && group_matches(rule, &self.group) && self.has_resource_of(rule)
+        group_matches(rule, &self.group) && self.has_verb_of(rule) && self.has_resource_of(rule)
     }
 
     // Whether the rule matches some verb of the row.

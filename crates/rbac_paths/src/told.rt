@@ -182,7 +182,7 @@ fn has_more(
 
 // Whether writing, if that is among these steps, takes over everything in the scope.
 #[tactic(auto, unfolding(crate::specs::Told::HoldingsHaveAll))]
-fn has_all(steps: &[StepRows], holdings: &[Holding<'_>], scope: Option<&Word>) -> bool
+pub(crate) fn has_all(steps: &[StepRows], holdings: &[Holding<'_>], scope: Option<&Word>) -> bool
     ensures { IsTrue result
         ↔ HoldingsHaveAll steps.now holdings.now (option_copied scope.entry) }
 {

@@ -1,5 +1,6 @@
-use Rattle.std.proofs.Common.{◌≡◌, ◌∙◌, None, Some, arith, get_or, map, refl, sym}
+use Rattle.std.proofs.Common.{◌≡◌, ◌∙◌, None, Some, arith, get_or, map, refl, subst, sym}
 use Rattle.rbac_paths.specs.Aims.{ToTakeOver}
+use Rattle.rbac_paths.specs.Deciding.{AreNumbersOf}
 use Rattle.rbac_paths.specs.Nodes.{node_of}
 use Rattle.rbac_paths.specs.Reasons.{IsReason, reason_view}
 use Rattle.rbac_paths.specs.TakingOver.{TakesOver}
@@ -13,6 +14,15 @@ last_step-requires-clause-role c =
     let found = c.in-Some.ensures.lookup.3 in
     let before = c.in-Some.before.now in
     mapped_has node_of (HasItsRole c.args.policy.now.held) c.args.nodes.now c.in-Some-Some.stop.before before found.0 (found.1 before) c.requires.held
+
+pub last_step-requires-clause-numbers : goal.last_step-requires-clause-numbers
+last_step-requires-clause-numbers c =
+    let p = c.args.policy.now in
+    let found = c.in-Some.ensures.lookup.3 in
+    let before = c.in-Some.before.now in
+    let at = c.in-Some-Some.stop.before in
+    subst (AreNumbersOf p c.args.steps.now (node_of before)) (sym c.listed_at-own.ensures)
+    (c.requires.numbers.each at (node_of before) found.0 (mapped_at node_of c.args.nodes.now at before found.0 (found.1 before)))
 
 pub returns-in_default-2 : goal.returns-in_default-2
 returns-in_default-2 c =

@@ -1,10 +1,11 @@
-use Rattle.std.proofs.Common.{◌≡◌, ◌∙◌, Bor, Contains, List, Option, ℕ, ap, map, subst, sym}
+use Rattle.std.proofs.Common.{◌≡◌, ◌∙◌, Bor, Contains, List, Option, ℕ, ap, length, map, subst, sym}
 use Rattle.std.proofs.lemmas.Result.{IfOk-weaker}
 use Rattle.rbac_terms.specs.Principals.{Who}
 use Rattle.rbac_terms.specs.Text.{Text}
 use Rattle.rbac_ways.specs.Ways.{AreStops}
 use Rattle.rbac_ways.specs.declared.graph.Stop.{Stop}
 use Rattle.rbac_paths.specs.Access.{access_of}
+use Rattle.rbac_paths.specs.Deciding.{AreNumbers}
 use Rattle.rbac_paths.specs.NodeLists.{AreNodes}
 use Rattle.rbac_paths.specs.Nodes.{node_of}
 use Rattle.rbac_paths.specs.Paths.{IsGraphOf}
@@ -54,6 +55,14 @@ ways_by-requires-clause-held c =
     (subst (λ (ts : List Text). AreNodes p all ts (map node_of c.in_ok-nodes.nodes.items)) c.as_slice-2.ensures.value c.in_ok-nodes.ensures) in
     held p ok all names bound ys are
 
+pub graph_of-requires-clause-numbers : goal.graph_of-requires-clause-numbers
+graph_of-requires-clause-numbers c =
+    subst (AreNumbers c.args.policy.now c.as_slice-rows.result.now (map node_of c.as_slice-nodes.result.now) (length c.as_slice-nodes.result.now)) (sym c.as_slice-numbers.ensures.value) c.in_ok-numbers.ensures
+
+pub ways_by-requires-clause-numbers : goal.ways_by-requires-clause-numbers
+ways_by-requires-clause-numbers c =
+    subst (AreNumbers c.args.policy.now c.as_slice-rows.result.now (map node_of c.as_slice-nodes.result.now) (length c.as_slice-nodes.result.now)) (sym c.as_slice-numbers.ensures.value) c.in_ok-numbers.ensures
+
 pub ways_by-requires-clause-linked : goal.ways_by-requires-clause-linked
 ways_by-requires-clause-linked c =
     let p = c.args.policy.now in
@@ -67,12 +76,12 @@ ways_by-requires-clause-linked c =
     let steps = c.args.steps.now in
     let asked = access_of c.args.access in
     let g = c.in_ok-graph.graph in
-    let graph = subst (λ (ss : List Step). IsGraphOf p ss ys g) (c.as_slice-3.ensures.value ∙ c.in_ok-rows.ensures) c.in_ok-graph.ensures in
+    let graph = subst (λ (ss : List Step). IsGraphOf p ss ys g) (c.as_slice-rows.ensures.value ∙ c.in_ok-rows.ensures) c.in_ok-graph.ensures in
     let back = c.in_ok-back.back in
     let ends = c.in_ok-ends.ends.items in
     let stops = c.in_ok-reached.reached.stops.items in
-    let found = subst (λ (js : List ℕ). AreStops back js stops) c.as_slice-5.ensures.value c.in_ok-reached.ensures.stops in
-    let rows : c.as_slice-6.result.now ≡ steps = c.as_slice-6.ensures.value ∙ c.in_ok-rows.ensures in
+    let found = subst (λ (js : List ℕ). AreStops back js stops) c.as_slice-4.ensures.value c.in_ok-reached.ensures.stops in
+    let rows : c.as_slice-rows.result.now ≡ steps = c.as_slice-rows.ensures.value ∙ c.in_ok-rows.ensures in
     subst (λ (ss : List Step). AreLinkedOn p ss ys stops) (sym rows) (linked_on p ok all names bound ys are steps asked g graph back c.in_ok-back.ensures.nodes c.in_ok-back.ensures.edges ends c.in_ok-ends.ensures stops found)
 
 pub ways_by-requires-clause-ends : goal.ways_by-requires-clause-ends
@@ -88,11 +97,11 @@ ways_by-requires-clause-ends c =
     let steps = c.args.steps.now in
     let asked = access_of c.args.access in
     let g = c.in_ok-graph.graph in
-    let graph = subst (λ (ss : List Step). IsGraphOf p ss ys g) (c.as_slice-3.ensures.value ∙ c.in_ok-rows.ensures) c.in_ok-graph.ensures in
+    let graph = subst (λ (ss : List Step). IsGraphOf p ss ys g) (c.as_slice-rows.ensures.value ∙ c.in_ok-rows.ensures) c.in_ok-graph.ensures in
     let back = c.in_ok-back.back in
     let ends = c.in_ok-ends.ends.items in
     let stops = c.in_ok-reached.reached.stops.items in
-    let found = subst (λ (js : List ℕ). AreStops back js stops) c.as_slice-5.ensures.value c.in_ok-reached.ensures.stops in
+    let found = subst (λ (js : List ℕ). AreStops back js stops) c.as_slice-4.ensures.value c.in_ok-reached.ensures.stops in
     ends_allow p ok all names bound ys are steps asked g graph back c.in_ok-back.ensures.nodes c.in_ok-back.ensures.edges ends c.in_ok-ends.ensures stops found
 
 pub returns : goal.returns
@@ -108,15 +117,15 @@ returns c =
     let steps = c.args.steps.now in
     let asked = access_of c.args.access in
     let g = c.in_ok-graph.graph in
-    let graph = subst (λ (ss : List Step). IsGraphOf p ss ys g) (c.as_slice-3.ensures.value ∙ c.in_ok-rows.ensures) c.in_ok-graph.ensures in
+    let graph = subst (λ (ss : List Step). IsGraphOf p ss ys g) (c.as_slice-rows.ensures.value ∙ c.in_ok-rows.ensures) c.in_ok-graph.ensures in
     let back = c.in_ok-back.back in
     let ends = c.in_ok-ends.ends.items in
     let stops = c.in_ok-reached.reached.stops.items in
-    let found = subst (λ (js : List ℕ). AreStops back js stops) c.as_slice-5.ensures.value c.in_ok-reached.ensures.stops in
-    let rows : c.as_slice-6.result.now ≡ steps = c.as_slice-6.ensures.value ∙ c.in_ok-rows.ensures in
+    let found = subst (λ (js : List ℕ). AreStops back js stops) c.as_slice-4.ensures.value c.in_ok-reached.ensures.stops in
+    let rows : c.as_slice-rows.result.now ≡ steps = c.as_slice-rows.ensures.value ∙ c.in_ok-rows.ensures in
     let starts = c.in_ok-starts.starts.items in
     let come = c.in_ok-come.come.stops.items in
-    let met = subst (λ (js : List ℕ). AreStops g js come) c.as_slice-4.ensures.value c.in_ok-come.ensures.stops in
+    let met = subst (λ (js : List ℕ). AreStops g js come) c.as_slice-3.ensures.value c.in_ok-come.ensures.stops in
     let order = c.in_ok-reached.reached.order.items in
     let same : all ≡ c.args.principals.now = ap (λ (ws : List (Bor Who)). map (λ (who : Bor Who). who.now) ws) c.as_slice.ensures.value ∙ c.in_ok-all.ensures.same in
     IfOk-weaker c.ways_by.result _ _
@@ -125,7 +134,7 @@ returns c =
       λ who. (subst (λ (ps : List Who). Contains ps who) same, subst (λ (ps : List Who). Contains ps who) (sym same)),
       are_ways p ok all names bound ys are steps asked g graph back c.in_ok-back.ensures.nodes c.in_ok-back.ensures.edges ends c.in_ok-ends.ensures stops found starts c.in_ok-starts.ensures come met order
           c.in_ok-reached.ensures.order made.items
-          (subst (λ (ss : List (Option Stop)). AreWaysAt p steps asked ys ss stops order made.items) c.as_slice-7.ensures.value
-          (subst (λ (ss : List Step). AreWaysAt p ss asked ys c.as_slice-7.result.now stops order made.items) rows is)),
+          (subst (λ (ss : List (Option Stop)). AreWaysAt p steps asked ys ss stops order made.items) c.as_slice-come.ensures.value
+          (subst (λ (ss : List Step). AreWaysAt p ss asked ys c.as_slice-come.result.now stops order made.items) rows is)),
     ))
     c.ways_by.ensures

@@ -15,8 +15,8 @@ returns-in_ok-extend_with_clones c =
     let names : added.0 ≡ rule.resource_names = same_from_all_zip _ c.as_slice.result.now added.0 added.2 (λ x y same. same) ∙ c.as_slice.ensures in
     let new : c.extend_with_clones.new.self.items ≡ old ++ rule.resource_names = added.1 ∙ ap (λ (ws : List Text). old ++ ws) names in
     subst (λ (ws : List Text). AddsWords (BindsNamed rule) old ws) (sym new)
-    (adds_same (Contains rule.resource_names) (BindsNamed rule) (binds_named c.args.rows.now c.requires rule (c.lets_bind.ensures.0 c.if-lets_bind.true)) old (old ++ rule.resource_names) (adds_all rule.resource_names old))
+    (adds_same (Contains rule.resource_names) (BindsNamed rule) (binds_named c.args.rows.now c.requires rule (c.matches_some.ensures.0 c.if-matches_some.true)) old (old ++ rule.resource_names) (adds_all rule.resource_names old))
 
-pub returns-else-lets_bind : goal.returns-else-lets_bind
-returns-else-lets_bind c =
-    adds_none (BindsNamed c.args.rule.now) (binds_none c.args.rows.now c.requires c.args.rule.now (λ any. (let both = c.lets_bind.ensures.1 any in let not = c.if-lets_bind.false in cc))) c.args.names.now.items
+pub returns-else-matches_some : goal.returns-else-matches_some
+returns-else-matches_some c =
+    adds_none (BindsNamed c.args.rule.now) (binds_none c.args.rows.now c.requires c.args.rule.now (λ any. (let both = c.matches_some.ensures.1 any in let not = c.if-matches_some.false in cc))) c.args.names.now.items

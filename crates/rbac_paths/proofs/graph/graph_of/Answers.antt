@@ -1,45 +1,60 @@
-use Rattle.std.proofs.Common.{◌≡◌, ◌∙◌, List, Some, ℕ, arith, length, map, slice_get, subst, sym}
+use Rattle.std.proofs.Common.{◌≡◌, ◌∙◌, List, Some, ℕ, arith, get_or, length, map, slice_get, subst, sym}
 use Rattle.std.proofs.lemmas.List.{length-map}
+use Rattle.std.proofs.lemmas.List.Elements.{Contains-get_or}
 use Rattle.std.proofs.lemmas.Option.{same_Some}
-use Rattle.rbac_paths.specs.Having.{AreHoldings, HoldingView}
-use Rattle.rbac_paths.specs.Joints.{AreJoints, AreOthers, TakesByWords}
+use Rattle.rbac_paths.specs.Deciding.{AreNumbersOf, IsAnyNode}
+use Rattle.rbac_paths.specs.Having.{HoldingView}
+use Rattle.rbac_paths.specs.Joints.{AreJoints, AreOthers, DecideOn, TakesByWords}
 use Rattle.rbac_paths.specs.Nodes.{NodeView, node_of}
 use Rattle.rbac_paths.specs.Told.{HasItsRole}
 use Rattle.rbac_paths.proofs.GraphOf.{graph_is, joints_more, ok_both}
 use Rattle.rbac_paths.proofs.Mapped.{mapped_at, mapped_has}
+use Rattle.rbac_paths.proofs.WhatDecides.{numbers_within}
 use Rattle.rbac_paths.proofs.graph.graph_of.Goals as goal
 
-pub holdings_of-requires-clause-role : goal.holdings_of-requires-clause-role
-holdings_of-requires-clause-role c =
-    mapped_has node_of (HasItsRole c.args.policy.now.held) c.args.nodes.now c.loop-node.node-index c.node-item.result c.loop-node-test.true c.node-item.is c.requires.held
+pub deciding_holdings-requires-clause-role : goal.deciding_holdings-requires-clause-role
+deciding_holdings-requires-clause-role c =
+    mapped_has node_of (HasItsRole c.args.policy.now.held) c.args.nodes.now c.loop-place.place c.index-nodes-place.result c.loop-place-test.true c.index-nodes-place.is c.requires.held
 
-pub loop-node-preserved : goal.loop-node-preserved
-loop-node-preserved c =
+pub deciding_holdings-requires-clause-within : goal.deciding_holdings-requires-clause-within
+deciding_holdings-requires-clause-within c =
     let p = c.args.policy.now in
-    let ok = c.requires.policy in
+    let steps = c.args.steps.now in
+    let place = c.loop-place.place in
+    let x = node_of c.index-nodes-place.result in
+    let at = mapped_at node_of c.args.nodes.now place c.index-nodes-place.result c.loop-place-test.true c.index-nodes-place.is in
+    let own = c.listed_at-own.result.now in
+    let are = subst (AreNumbersOf p steps x) (sym c.listed_at-own.ensures) (c.requires.numbers.each place x c.loop-place-test.true at) in
+    λ k d low. numbers_within p steps x own are (get_or own k d) (Contains-get_or own k d low)
+
+pub loop-place-preserved : goal.loop-place-preserved
+loop-place-preserved c =
+    let p = c.args.policy.now in
     let steps = c.args.steps.now in
     let ys = map node_of c.args.nodes.now in
-    let i = c.loop-node.node-index in
-    let x = node_of c.node-item.result in
+    let place = c.loop-place.place in
+    let x = node_of c.index-nodes-place.result in
     let hs = c.in_ok-holdings.holdings.items in
-    let at : slice_get ys i ≡ Some x = mapped_at node_of c.args.nodes.now i c.node-item.result c.loop-node-test.true c.node-item.is in
-    let is : (y : NodeView) → slice_get ys i ≡ Some y → x ≡ y = λ y there. same_Some x y (sym at ∙ there) in
-    let first = subst (λ (h : List HoldingView). AreHoldings p x h) (sym c.as_slice.ensures.value) c.in_ok-holdings.ensures in
-    let second = subst (λ (h : List HoldingView). AreHoldings p x h) (sym c.as_slice-in-loop-node.ensures.value) c.in_ok-holdings.ensures in
+    let at : slice_get ys place ≡ Some x = mapped_at node_of c.args.nodes.now place c.index-nodes-place.result c.loop-place-test.true c.index-nodes-place.is in
+    let is : (y : NodeView) → slice_get ys place ≡ Some y → x ≡ y = λ y there. same_Some x y (sym at ∙ there) in
+    let are = subst (AreNumbersOf p steps x) (sym c.listed_at-own.ensures) (c.requires.numbers.each place x c.loop-place-test.true at) in
+    let decide = c.in_ok-holdings.ensures steps are in
+    let first = subst (λ (h : List HoldingView). DecideOn p steps x h IsAnyNode) (sym c.as_slice.ensures.value) decide in
+    let second = subst (λ (h : List HoldingView). DecideOn p steps x h IsAnyNode) (sym c.as_slice-in-loop-place.ensures.value) decide in
     let ws = c.in_ok-words_taken.field-0 in
     let js = c.in_ok-others_taken.field-0 in
     rw (c.in_ok-push.ensures.items, c.in_ok-push-2.ensures.items)
-    (joints_more p steps ys i c.loop-node.takes.items c.loop-node.also.items ws js c.loop-node.invariant
-    (λ y there. subst (λ (z : NodeView). TakesByWords p steps z ws) (is y there) (c.in_ok-words_taken.ensures p ok first))
-    (λ y there. subst (λ (z : NodeView). AreOthers p steps z ys js) (is y there) (c.in_ok-others_taken.ensures p ok second)))
+    (joints_more p steps ys place c.loop-place.takes.items c.loop-place.also.items ws js c.loop-place.invariant
+    (λ y there. subst (λ (z : NodeView). TakesByWords p steps z ws) (is y there) (c.in_ok-words_taken.ensures p first))
+    (λ y there. subst (λ (z : NodeView). AreOthers p steps z ys js) (is y there) (c.in_ok-others_taken.ensures p second)))
 
 pub returns : goal.returns
 returns c =
     let p = c.args.policy.now in
     let steps = c.args.steps.now in
     let ys = map node_of c.args.nodes.now in
-    let end : c.loop-node.node-index ≡ length ys = (let test = c.loop-node-test.false in let low = c.loop-node.auto.node-index-end in let e : c.loop-node.node-index ≡ length c.args.nodes.now = omega (arith, test, low) in e) ∙ sym (length-map c.args.nodes.now node_of) in
-    let joints = subst (λ (n : ℕ). AreJoints p steps ys n c.loop-node.takes.items c.loop-node.also.items) end c.loop-node.invariant in
+    let end : c.loop-place.place ≡ length ys = (let test = c.loop-place-test.false in let low = c.loop-place.auto.place-end in let e : c.loop-place.place ≡ length c.args.nodes.now = omega (arith, test, low) in e) ∙ sym (length-map c.args.nodes.now node_of) in
+    let joints = subst (λ (n : ℕ). AreJoints p steps ys n c.loop-place.takes.items c.loop-place.also.items) end c.loop-place.invariant in
     let there = rw (← c.as_slice-2.ensures.value, ← c.as_slice-4.ensures.value) at joints in
     let had = rw (← c.as_slice-3.ensures.value, ← length-map c.args.nodes.now node_of) at c.in_ok-had_by.ensures in
     ok_both c.joined.result _ _ _ (λ g len edges. graph_is p steps ys c.as_slice-2.result.now c.as_slice-3.result.now c.as_slice-4.result.now there had g len edges) c.joined.ensures.nodes c.joined.ensures.edges

@@ -3,5 +3,5 @@ use Rattle.rbac_paths.specs.Joints.{AreJoints}
 use Rattle.rbac_paths.specs.Nodes.{node_of}
 use Rattle.rbac_paths.proofs.graph.graph_of.Given as goal
 
-abbrev pub invariant-loop-node : goal.invariant-loop-node
-invariant-loop-node l = AreJoints l.policy l.steps (map node_of l.nodes) l.node-index l.takes.items l.also.items
+abbrev pub invariant-loop-place : goal.invariant-loop-place
+invariant-loop-place l = AreJoints l.policy l.steps (map node_of l.nodes) l.place l.takes.items l.also.items

@@ -5,7 +5,7 @@ use Rattle.rbac_paths.proofs.WordsTaken.{takes_by_words}
 use Rattle.rbac_paths.proofs.graph.words_taken.Goals as goal
 
 pub returns-then-goes_further : goal.returns-then-goes_further
-returns-then-goes_further c p ok are =
+returns-then-goes_further c p decide =
     let x = node_of c.args.node in
     IfOk-weaker c.taken_words.result _ (λ ws. TakesByWords p c.args.steps.now x ws)
-    (λ ws exact. takes_by_words p ok x c.args.holdings.now are c.args.steps.now (λ who. (c.goes_further.ensures who).0 c.if-goes_further.true) ws exact) c.taken_words.ensures
+    (λ ws exact. takes_by_words p x c.args.holdings.now c.args.steps.now decide (λ who. (c.goes_further.ensures who).0 c.if-goes_further.true) ws exact) c.taken_words.ensures

@@ -1,0 +1,329 @@
+-- Which grants decide what a node takes over, and that they do.
+use Rattle.std.specs.Prelude.{IsSomeAnd}
+use Rattle.std.proofs.Common.{◌≡◌, ◌≤◌, ◌<◌, ◌+◌, ◌++◌, ◌∙◌, ◌↔◌, ℕ, List, [], ◌∷◌, MatchOption, None, Option, Some, Any, map, Contains, ap, arith, get_or, inl, inr, length, refl, slice_get, subst, sym}
+use Rattle.std.proofs.lemmas.Bool.{cases_eq, cases_lt}
+use Rattle.std.proofs.lemmas.List.{get_or_append_left, get_or_at, get_or_past, length_push}
+use Rattle.std.proofs.lemmas.List.Elements.{Contains-append_cases, Contains-append_left, Contains-append_right, Contains-push, Contains-push_cases}
+use Rattle.std.proofs.lemmas.Option.{same_Some, slice_get_within}
+use Rattle.rbac_terms.specs.Matching.{VerbOk}
+use Rattle.rbac_terms.specs.Principals.{Who}
+use Rattle.rbac_terms.specs.declared.matching.Rule.{Rule}
+use Rattle.rbac_model.proofs.BindingPlaces.{of_some_binding}
+use Rattle.rbac_model.proofs.OwnWords.{any_from}
+use Rattle.rbac_model.specs.Policies.{BindingNames, GrantView, IsOfBinding, IsPolicy, PolicyView}
+use Rattle.rbac_model.specs.Lists.{IsFirstAt}
+use Rattle.rbac_subjects.specs.Bound.{AreNamedPlaces}
+use Rattle.rbac_paths.specs.Aims.{GrantServes, Serves, ToTakeOver}
+use Rattle.rbac_paths.specs.Deciding.{AreNumbers, AreNumbersOf, AreTakingGrants, AreTakingNumbers, GiveHoldings, IsAnyNode, IsLeastTaking, IsTakingAt, MatchesStep, SomeRowMatches, TakesBy}
+use Rattle.rbac_paths.specs.Having.{AreHoldings, HoldingView}
+use Rattle.rbac_paths.specs.Joints.{DecideOn, IsAboutNode}
+use Rattle.rbac_paths.specs.Nodes.{NodeView, Somebody, ClusterRoleIn, OwnRole, EverythingIn, node_of}
+use Rattle.rbac_paths.specs.Rows.{AreOfStep, HasRowResource, MatchesRow}
+use Rattle.rbac_paths.specs.Steps.{RowView, table}
+use Rattle.rbac_paths.specs.Taking.{CanTakeOver, RowTakes, RuleTakes}
+use Rattle.rbac_paths.specs.Told.{HoldingTakes, HoldingsTake, grant_holding}
+use Rattle.rbac_paths.specs.declared.node.Node.{Node}
+use Rattle.rbac_paths.specs.declared.steps.Step.{Step}
+use Rattle.rbac_paths.proofs.AllowedBy.{by_holdings, in_holdings}
+use Rattle.rbac_paths.proofs.Grants.{GrantTakes, by_grant, some_takes}
+use Rattle.rbac_paths.proofs.GraphOf.{pushed}
+
+-- ---- which rules match
+
+-- what rows of a step say of a rule is what the table says
+pub matches_rows : (step : Step) (rows : List RowView) → AreOfStep step table rows → (rule : Rule) → Any (λ row. MatchesRow row rule) rows ↔ MatchesStep rule step
+unfolding MatchesStep
+matches_rows step rows of rule = (
+  λ a. (let there = (of a.1).0 (a.0, a.2, a.3) in any_from (λ row. (row.step ≡ step) × MatchesRow row rule) table a.1 there.0 (there.1, a.4)),
+  λ a. any_from (λ row. MatchesRow row rule) rows a.1 ((of a.1).1 ((a.0, a.2, a.3), a.4.0)) a.4.1,
+)
+
+-- a rule that takes over a node by a row matches the row
+row_matches : (row : RowView) (h : HoldingView) (y : NodeView) → RowTakes row h.home h.rule y → MatchesRow row h.rule
+row_matches row h y w = (
+  any_from (VerbOk h.rule) row.verbs w.verb w.of_verbs w.allows.0,
+  w.allows.1.0,
+  any_from (HasRowResource h.rule) row.resources w.text w.of_resources w.allows.1.1,
+)
+
+pub step_matches : (steps : List Step) (step : Step) → Contains steps step → (h : HoldingView) (y : NodeView) → HoldingTakes step h y → SomeRowMatches steps h.rule
+unfolding HoldingTakes SomeRowMatches MatchesStep
+step_matches steps step among h y a =
+    any_from (MatchesStep h.rule) steps step among
+    (any_from (λ row. (row.step ≡ step) × MatchesRow row h.rule) table a.1 (a.0, a.2, a.3) (a.4.0, row_matches a.1 h y a.4.1))
+
+-- ---- what is listed at some places
+
+abbrev pub AreListedAt : List (List ℕ) → List ℕ → List ℕ → Type 0
+AreListedAt lists places numbers = (n : ℕ) → Contains numbers n ↔ ((at : ℕ) × Contains places at × Contains (get_or lists at []) n)
+
+pub listed_none : (lists : List (List ℕ)) (numbers : List ℕ) → numbers ≡ [] → AreListedAt lists [] numbers
+listed_none lists numbers empty n = (
+  λ c. absurd (let low = (subst (λ (ks : List ℕ). Contains ks n) empty c).1 in omega (arith, low)),
+  λ w. absurd (let low = w.1.1 in omega (arith, low)),
+)
+
+pub listed_more : (lists : List (List ℕ)) (places : List ℕ) (place : ℕ) (numbers : List ℕ) → AreListedAt lists places numbers → AreListedAt lists (places ++ place ∷ []) (numbers ++ get_or lists place [])
+listed_more lists places place numbers are n = (
+  λ c. elim (Contains-append_cases numbers (get_or lists place []) n c) [
+    | inl old ↦ (let w = (are n).0 old in (w.0, Contains-append_left places (place ∷ []) w.0 w.1, w.2))
+    | inr own ↦ (place, Contains-push places place, own)
+  ],
+  λ w. elim (Contains-push_cases places place w.0 w.1) [
+    | inl old ↦ Contains-append_left numbers (get_or lists place []) n ((are n).1 (w.0, old, w.2))
+    | inr same ↦ Contains-append_right numbers (get_or lists place []) n (subst (λ (k : ℕ). Contains (get_or lists k []) n) (sym same) w.2)
+  ],
+)
+
+-- ---- the grants of a binding, one after the other
+
+module _ (p : PolicyView) (steps : List Step) where
+  -- exactly the numbers from `start` up to `end` of grants whose rules match
+  abbrev pub AreTakingIn : ℕ → ℕ → List ℕ → Type 0
+  AreTakingIn start end numbers = (n : ℕ) → Contains numbers n ↔ ((start ≤ n) × (n < end) × IsTakingAt p steps n)
+
+  pub taking_none : (start : ℕ) (numbers : List ℕ) → numbers ≡ [] → AreTakingIn start start numbers
+  taking_none start numbers empty n = (
+    λ c. absurd (let low = (subst (λ (ks : List ℕ). Contains ks n) empty c).1 in omega (arith, low)),
+    λ w. absurd (omega (arith, w.0, w.1)),
+  )
+
+  module _ (start number : ℕ) (numbers : List ℕ) (are : AreTakingIn start number numbers) (low : start ≤ number) where
+    pub taking_more : IsTakingAt p steps number → AreTakingIn start (number + 1) (numbers ++ number ∷ [])
+    taking_more is n = (
+      λ c. elim (Contains-push_cases numbers number n c) [
+        | inl old ↦ (let w = (are n).0 old in (w.0, omega (arith, w.1), w.2))
+        | inr same ↦ (omega (arith, low, same), omega (arith, same), subst (λ (k : ℕ). IsTakingAt p steps k) same is)
+      ],
+      λ w. elim (cases_eq n number) [
+        | inl same ↦ subst (λ (k : ℕ). Contains (numbers ++ number ∷ []) k) (sym same) (Contains-push numbers number)
+        | inr other ↦ Contains-append_left numbers (number ∷ []) n ((are n).1 (w.0, omega (arith, w.1, other), w.2))
+      ],
+    )
+
+    pub taking_same : (IsTakingAt p steps number → ⊥) → AreTakingIn start (number + 1) numbers
+    taking_same none n = (
+      λ c. (let w = (are n).0 c in (w.0, omega (arith, w.1), w.2)),
+      λ w. elim (cases_eq n number) [
+        | inl same ↦ absurd (none (subst (λ (k : ℕ). IsTakingAt p steps k) same w.2))
+        | inr other ↦ (are n).1 (w.0, omega (arith, w.1, other), w.2)
+      ],
+    )
+
+  -- of a grant whose rule is known
+  pub taking_rule : (number : ℕ) (g : GrantView) → slice_get p.grants number ≡ Some g → IsTakingAt p steps number → SomeRowMatches steps g.rule.rule
+  taking_rule number g here is = subst (λ (x : GrantView). SomeRowMatches steps x.rule.rule) (same_Some is.0 g (sym is.1 ∙ here)) is.2
+
+  -- exactly the numbers of the binding's grants whose rules match
+  abbrev pub AreTakingOf : ℕ → List ℕ → Type 0
+  AreTakingOf place numbers = (n : ℕ) → Contains numbers n ↔ (IsOfBinding p n place × IsTakingAt p steps n)
+
+  pub taking_of : IsPolicy p → (place start end : ℕ) → ((n at : ℕ) → IsOfBinding p n at → ((start ≤ n) × (n < end)) ↔ (at ≡ place)) → (numbers : List ℕ) → AreTakingIn start end numbers → AreTakingOf place numbers
+  taking_of ok place start end between numbers are n = (
+    λ c.
+        (let w = (are n).0 c in
+        let of = of_some_binding p ok n (slice_get_within p.grants n w.2.0 w.2.1) in
+        (subst (λ (k : ℕ). IsOfBinding p n k) ((between n of.0 of.1).0 (w.0, w.1)) of.1, w.2)),
+    λ w. (let low = (between n place w.0).1 refl in (are n).1 (low.0, low.1, w.1)),
+  )
+
+  -- ---- binding by binding
+
+  pub record AreTakingBelow (count : ℕ) (lists : List (List ℕ)) : Type 0 where
+    pub len : length lists ≡ count
+    pub each : (at : ℕ) → at < count → AreTakingOf at (get_or lists at [])
+
+  pub below_more : (count : ℕ) (lists : List (List ℕ)) (numbers : List ℕ) → AreTakingBelow count lists → AreTakingOf count numbers → AreTakingBelow (count + 1) (lists ++ numbers ∷ [])
+  below_more count lists numbers below of = record {
+    len = length_push lists numbers ∙ ap (λ (n : ℕ). n + 1) below.len;
+    each = λ at low. elim (cases_lt at count) [
+      | inl less ↦ subst (AreTakingOf at) (sym (get_or_append_left lists (numbers ∷ []) [] at (let same = below.len in omega (arith, less, same)))) (below.each at less)
+      | inr high ↦ (
+          let same : at ≡ count = omega (arith, low, high) in
+          subst (AreTakingOf at) (sym (get_or_at lists numbers [] [] at (below.len ∙ sym same))) (subst (λ (k : ℕ). AreTakingOf k numbers) (sym same) of)
+          )
+    ];
+  }
+
+  pub below_all : (count : ℕ) (lists : List (List ℕ)) → length p.held.bindings ≡ count → AreTakingBelow count lists → AreTakingGrants p steps lists
+  below_all count lists end below n at = elim (cases_lt at count) [
+    | inl low ↦ below.each at low n
+    | inr high ↦ (
+        let empty : get_or lists at [] ≡ [] = get_or_past lists at [] (let same = below.len in omega (arith, high, same)) in (
+          λ c. absurd (let low = (subst (λ (ks : List ℕ). Contains ks n) empty c).1 in omega (arith, low)),
+          λ w. absurd (let within = slice_get_within p.held.bindings at w.0.0.binding w.0.2 in omega (arith, within, high, end)),
+        )
+        )
+  ]
+
+  pub listed_all : IsPolicy p → (who : Who) (lists : List (List ℕ)) (places numbers : List ℕ) → AreTakingGrants p steps lists → AreNamedPlaces p who places → AreListedAt lists places numbers → AreTakingNumbers p steps who numbers
+  listed_all ok who lists places numbers taking named are n = (
+    λ c.
+        (let w = (are n).0 c in
+        let is = (taking n w.0).0 w.2 in
+        ((named n w.0 is.0).0 w.1, is.1)),
+    λ w.
+        (let of = of_some_binding p ok n (slice_get_within p.grants n w.1.0 w.1.1) in
+        (are n).1 (of.0, (named n of.0 of.1).1 w.0, (taking n of.0).1 (of.1, w.1))),
+  )
+
+  -- ---- what these grants give
+
+  pub numbers_within : (y : NodeView) (numbers : List ℕ) → AreNumbersOf p steps y numbers → (n : ℕ) → Contains numbers n → n < length p.grants
+  numbers_within (Somebody who) numbers are n c = let w = (are n).0 c in slice_get_within p.grants n w.1.0 w.1.1
+  numbers_within (ClusterRoleIn role scope) numbers are n c = absurd (let low = (subst (λ (ks : List ℕ). Contains ks n) are c).1 in omega (arith, low))
+  numbers_within (OwnRole role) numbers are n c = absurd (let low = (subst (λ (ks : List ℕ). Contains ks n) are c).1 in omega (arith, low))
+  numbers_within (EverythingIn scope) numbers are n c = absurd (let low = (subst (λ (ks : List ℕ). Contains ks n) are c).1 in omega (arith, low))
+
+pub given_none : (p : PolicyView) (hs : List HoldingView) → hs ≡ [] → GiveHoldings p [] hs
+given_none p hs empty h = (
+  λ c. absurd (let low = (subst (λ (ks : List HoldingView). Contains ks h) empty c).1 in omega (arith, low)),
+  λ w. absurd (let low = w.1.1 in omega (arith, low)),
+)
+
+pub given_more : (p : PolicyView) (numbers : List ℕ) (number : ℕ) (g : GrantView) → slice_get p.grants number ≡ Some g → (hs : List HoldingView) → GiveHoldings p numbers hs → GiveHoldings p (numbers ++ number ∷ []) (hs ++ grant_holding g ∷ [])
+given_more p numbers number g here hs give h = (
+  λ c. elim (Contains-push_cases hs (grant_holding g) h c) [
+    | inl old ↦ (let w = (give h).0 old in (w.0, Contains-append_left numbers (number ∷ []) w.0 w.1, w.2))
+    | inr same ↦ (number, Contains-push numbers number, (g, here, same))
+  ],
+  λ w. elim (Contains-push_cases numbers number w.0 w.1) [
+    | inl old ↦ Contains-append_left hs (grant_holding g ∷ []) h ((give h).1 (w.0, old, w.2))
+    | inr same ↦ (
+        let at : slice_get p.grants number ≡ Some w.2.0 = subst (λ (k : ℕ). slice_get p.grants k ≡ Some w.2.0) (sym same) w.2.1 in
+        let one : w.2.0 ≡ g = same_Some w.2.0 g (sym at ∙ here) in
+        subst (λ (x : HoldingView). Contains (hs ++ grant_holding g ∷ []) x) (ap grant_holding (sym one) ∙ w.2.2) (Contains-push hs (grant_holding g))
+        )
+  ],
+)
+
+-- what somebody's grants whose rules match give decides what they take over
+pub given_decide : (p : PolicyView) → IsPolicy p → (who : Who) (steps : List Step) (numbers : List ℕ) → AreTakingNumbers p steps who numbers → (hs : List HoldingView) → GiveHoldings p numbers hs → DecideOn p steps (Somebody who) hs IsAnyNode
+unfolding HoldingsTake HoldingTakes
+given_decide p ok who steps numbers are hs give step y among any = (
+  λ a.
+      (let w = (give a.1).0 (a.0, a.2, a.3) in
+      let named = ((are w.0).0 w.1).0 in
+      let g = w.2.0 in
+      let names = subst (λ (x : GrantView). BindingNames x.binding who) (same_Some named.0 g (sym named.1 ∙ w.2.1)) named.2 in
+      by_grant p ok who step y w.0 g w.2.1 (names, subst (λ (h : HoldingView). RuleTakes step h.home h.rule y) (sym w.2.2) a.4)),
+  λ c.
+      (let w = some_takes p ok who step y c in
+      let g = w.1 in
+      let is : IsTakingAt p steps w.0 = (g, w.2, step_matches steps step among (grant_holding g) y w.3.1) in
+      any_from (λ h. RuleTakes step h.home h.rule y) hs (grant_holding g) ((give (grant_holding g)).1 (w.0, (are w.0).1 ((g, w.2, w.3.0), is), (g, w.2, refl))) w.3.1),
+)
+
+-- so does all that a node has
+pub held_decide : (p : PolicyView) → IsPolicy p → (x : NodeView) (hs : List HoldingView) → AreHoldings p x hs → (steps : List Step) → DecideOn p steps x hs IsAnyNode
+held_decide p ok x hs are steps step y among any = (by_holdings p ok x hs are step y, in_holdings p ok x hs are step y)
+
+pub given_for : (p : PolicyView) → IsPolicy p → (steps : List Step) (y : NodeView) (numbers : List ℕ) (hs : List HoldingView) (who : Who) → y ≡ Somebody who → AreNumbersOf p steps y numbers → GiveHoldings p numbers hs → DecideOn p steps y hs IsAnyNode
+given_for p ok steps y numbers hs who is are give =
+    subst (λ (z : NodeView). DecideOn p steps z hs IsAnyNode) (sym is) (given_decide p ok who steps numbers (subst (λ (z : NodeView). AreNumbersOf p steps z numbers) is are) hs give)
+
+-- what decides about all nodes decides about one of them
+pub decide_about : (p : PolicyView) (steps : List Step) (x : NodeView) (hs : List HoldingView) → DecideOn p steps x hs IsAnyNode → (y : NodeView) → DecideOn p steps x hs (IsAboutNode y)
+decide_about p steps x hs decide y step z among about = decide step z among tt
+
+-- ---- node by node
+
+module _ (p : PolicyView) (steps : List Step) (ys : List NodeView) where
+  pub numbers_more : (count : ℕ) (lists : List (List ℕ)) (numbers : List ℕ) → AreNumbers p steps ys count lists → ((y : NodeView) → slice_get ys count ≡ Some y → AreNumbersOf p steps y numbers) → AreNumbers p steps ys (count + 1) (lists ++ numbers ∷ [])
+  numbers_more count lists numbers are of = record {
+    len = length_push lists numbers ∙ ap (λ (n : ℕ). n + 1) are.len;
+    each = pushed (λ k y ns. AreNumbersOf p steps y ns) ys [] lists numbers count are.len are.each of;
+  }
+
+pub same_numbers : (p : PolicyView) (a b : List Step) (xs ys : List Node) (ls ms : List (List ℕ)) → a ≡ b → xs ≡ ys → ls ≡ ms → AreNumbers p a (map node_of xs) (length xs) ls → AreNumbers p b (map node_of ys) (length ys) ms
+same_numbers p a b xs ys ls ms steps nodes lists are =
+    subst (λ (ns : List (List ℕ)). AreNumbers p b (map node_of ys) (length ys) ns) lists
+    (subst (λ (zs : List Node). AreNumbers p b (map node_of zs) (length zs) ls) nodes
+    (subst (λ (ss : List Step). AreNumbers p ss (map node_of xs) (length xs) ls) steps are))
+
+-- ---- the first of somebody's grants that takes over a node
+
+module _ (p : PolicyView) (step : Step) (y : NodeView) where
+  pub least_none : IsLeastTaking p step y [] None
+  least_none n c takes = let low = c.1 in omega (arith, low)
+
+  module _ (numbers : List ℕ) (number : ℕ) where
+    -- one that isn't less than the least so far
+    pub least_stays : (o : Option ℕ) → (MatchOption o (Unit {0}) (λ n. number < n) → ⊥) → IsLeastTaking p step y numbers o → IsLeastTaking p step y (numbers ++ number ∷ []) o
+    least_stays None more least = absurd (more tt)
+    least_stays (Some found) more least = (
+      Contains-append_left numbers (number ∷ []) found least.0,
+      least.1,
+      λ n c takes. elim (Contains-push_cases numbers number n c) [
+        | inl old ↦ least.2 n old takes
+        | inr same ↦ elim (cases_lt n found) [
+          | inl less ↦ absurd (more (omega (arith, same, less)))
+          | inr high ↦ high
+        ]
+      ],
+    )
+
+    -- one that doesn't take over the node
+    pub least_skips : (o : Option ℕ) → (TakesBy p step y number → ⊥) → IsLeastTaking p step y numbers o → IsLeastTaking p step y (numbers ++ number ∷ []) o
+    least_skips None isnt least = λ n c takes. elim (Contains-push_cases numbers number n c) [
+      | inl old ↦ least n old takes
+      | inr same ↦ isnt (subst (TakesBy p step y) (sym same) takes)
+    ]
+    least_skips (Some found) isnt least = (
+      Contains-append_left numbers (number ∷ []) found least.0,
+      least.1,
+      λ n c takes. elim (Contains-push_cases numbers number n c) [
+        | inl old ↦ least.2 n old takes
+        | inr same ↦ absurd (isnt (subst (TakesBy p step y) (sym same) takes))
+      ],
+    )
+
+    -- one that is less, and does
+    pub least_new : (o : Option ℕ) → MatchOption o (Unit {0}) (λ n. number < n) → TakesBy p step y number → IsLeastTaking p step y numbers o → IsLeastTaking p step y (numbers ++ number ∷ []) (Some number)
+    least_new None less is least = (
+      Contains-push numbers number,
+      is,
+      λ n c takes. elim (Contains-push_cases numbers number n c) [ inl old ↦ absurd (least n old takes) | inr same ↦ omega (arith, same) ],
+    )
+    least_new (Some found) less is least = (
+      Contains-push numbers number,
+      is,
+      λ n c takes. elim (Contains-push_cases numbers number n c) [
+        | inl old ↦ (let high = least.2 n old takes in omega (arith, less, high))
+        | inr same ↦ omega (arith, same)
+      ],
+    )
+
+module _ (p : PolicyView) (ok : IsPolicy p) (who : Who) (steps : List Step) (step : Step) (among : Contains steps step) (numbers : List ℕ) (are : AreTakingNumbers p steps who numbers) (y : NodeView) where
+  -- a grant that lets somebody take over the node is among them
+  listed_takes : (n : ℕ) (g : GrantView) → slice_get p.grants n ≡ Some g → GrantTakes who step y g → Contains numbers n × TakesBy p step y n
+  unfolding HoldingTakes
+  listed_takes n g here takes = ((are n).1 ((g, here, takes.0), (g, here, step_matches steps step among (grant_holding g) y takes.1)), (g, here, takes.1))
+
+  pub none_taking : ((n : ℕ) → Contains numbers n → ¬ TakesBy p step y n) → ¬ CanTakeOver p (Somebody who) step y
+  none_taking none c =
+      let w = some_takes p ok who step y c in
+      let l = listed_takes w.0 w.1 w.2 w.3 in
+      none w.0 l.0 l.1
+
+  pub least_first : (least : ℕ) → IsLeastTaking p step y numbers (Some least) → (g : GrantView) × IsFirstAt (GrantServes (ToTakeOver step y) who) p.grants least g
+  unfolding HoldingTakes Serves
+  least_first least is =
+      let g = is.1.0 in
+      let here = is.1.1 in
+      let named = ((are least).0 is.0).0 in
+      let names = subst (λ (x : GrantView). BindingNames x.binding who) (same_Some named.0 g (sym named.1 ∙ here)) named.2 in (
+        g,
+        record {
+          here = here;
+          holds = (names, is.1.2);
+          none_before = λ k h low there takes. (let l = listed_takes k h there takes in let high = is.2 k l.0 l.1 in omega (arith, low, high));
+        },
+      )
+
+pub match_some : {X : Type 0} (o : Option X) (N : Type 0) (P : X → Type 0) → IsSomeAnd o P → MatchOption o N P
+match_some None N P is = absurd is
+match_some (Some x) N P is = is
+
+pub holding_taken : (p : PolicyView) (step : Step) (y : NodeView) (number : ℕ) (g : GrantView) → slice_get p.grants number ≡ Some g → TakesBy p step y number → HoldingTakes step (grant_holding g) y
+holding_taken p step y number g here takes = subst (λ (x : GrantView). HoldingTakes step (grant_holding x) y) (same_Some takes.0 g (sym takes.1 ∙ here)) takes.2
