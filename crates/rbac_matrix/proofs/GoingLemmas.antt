@@ -8,17 +8,19 @@ use Rattle.rbac_terms.specs.Keys.{key_of, namespace_at}
 use Rattle.rbac_model.specs.Policies.{Held, PolicyView, IsPolicy}
 use Rattle.rbac_model.specs.Universes.{UniverseView, IsUniverse, Listed, Cell, RowView, Fits, cell_key}
 use Rattle.rbac_matrix.specs.Cells.{AreRowsOf}
-use Rattle.rbac_matrix.specs.Lines.{LineView, lines_from}
+use Rattle.rbac_matrix.specs.Lines.{LineView, cells_of_lines, lines_from}
 use Rattle.rbac_reaches.specs.Reaches.{AreReaches}
 use Rattle.rbac_matrix.specs.Metering.{AreTouched, IsMetered, IsReady}
-use Rattle.rbac_matrix.specs.Passing.{FindsCell, Passes, cell_of}
+use Rattle.rbac_matrix.specs.Cursors.{IsCursorAt}
+use Rattle.rbac_matrix.specs.Passing.{FindsCell, Passes, cell_of, cells_left}
+use Rattle.rbac_matrix.specs.Seats.{AreSeated, Costs, seat_at}
 use Rattle.rbac_matrix.specs.Enumeration.{EntersLast}
 use Rattle.rbac_matrix.specs.declared.line.Place.{Place}
 use Rattle.rbac_matrix.specs.declared.seat.Seat.{Seat}
 use Rattle.rbac_matrix.proofs.SeatLemmas.{empty_passed, empty_standing}
 use Rattle.rbac_matrix.proofs.PassLemmas.{no_head, passes_left, passes_rows}
 use Rattle.rbac_matrix.proofs.BeginLemmas.{ready_line}
-use Rattle.rbac_matrix.proofs.TouchLemmas.{reads_few, touched_split}
+use Rattle.rbac_matrix.proofs.TouchLemmas.{metered_more, reads_few, touched_split}
 use Rattle.rbac_matrix.proofs.LineLemmas.{all_past, mapped_at}
 
 module _ (h : Held) (cs ds : List Cell) (row : RowView) (p : Passes h cs ds (row ∷ [])) where
@@ -53,10 +55,22 @@ fits_namespace u is l place t at fits = own_namespace u is l t.0 t.1 (place, sli
 
 -- ---- the seats after a row
 
--- the seats are ready where the next row was found
-pub found_ready : (p : PolicyView) (u : UniverseView) (rs : List (List ℕ)) (at : Place) (from upto : ℕ) (to : Place) (seats : List Seat) (place number : ℕ) → FindsCell p u rs at from upto to seats place number → IsReady p u rs to place number seats
-found_ready p u rs at from upto to seats place number f =
-    ready_line p u rs to place number seats f.settled f.line f.others f.line_at (f.found.here number (omega arith) f.found.next.onward)
+module _ (p : PolicyView) (u : UniverseView) (rs : List (List ℕ)) (at : Place) (from upto : ℕ) (to : Place) (old new : List Seat) (place number end : ℕ) (f : FindsCell p u rs at from upto to old place number) where
+  -- they are those of its line, past its place for the grants below a number
+  pub ready_after : AreSeated p f.line rs place end new → IsReady p u rs to place end new
+  ready_after seated = ready_line p u rs to place end new f.settled f.line f.others f.line_at seated
+
+  -- and one entry at least is passed
+  pub metered_after : (start : Place) (sought given m m' : ℕ) → IsMetered p u start sought to old given m → number < end
+      → ((k : ℕ) → IsCursorAt p f.line k → k < end → (seat_at old k).place ≡ place → Costs 0 1 old new m m') → IsMetered p u start sought to new (given + 1) m'
+  metered_after start sought given m m' h lt gains =
+      metered_more p u start sought to old new given 1 m m' h (gains number f.found.cursor lt f.found.stands)
+
+-- what a line gains, another that is equal to it gains
+pub gains_on : (p : PolicyView) (l m : LineView) (place end : ℕ) (old new : List Seat) (before after : ℕ) → l ≡ m
+    → ((k : ℕ) → IsCursorAt p l k → k < end → (seat_at old k).place ≡ place → Costs 0 1 old new before after)
+    → (k : ℕ) → IsCursorAt p m k → k < end → (seat_at old k).place ≡ place → Costs 0 1 old new before after
+gains_on p l m place end old new before after e gains k c = gains k (subst (λ (x : LineView). IsCursorAt p x k) (sym e) c)
 
 -- past a place for all grants is at the next one
 pub ready_next : (p : PolicyView) (u : UniverseView) (rs : List (List ℕ)) (at : Place) (place end : ℕ) (seats : List Seat) → end ≡ length p.grants → IsReady p u rs at place end seats → IsReady p u rs at (place + 1) 0 seats
@@ -89,6 +103,9 @@ module _ (p : PolicyView) (u : UniverseView) (rs : List (List ℕ)) (start : Pla
   meter_few behind entered n whole last touched = entered_few (lines_from u at) behind entered n refl whole last touched
 
 -- ---- what a row shows
+
+pub ended_left : (h : Held) (u : UniverseView) (at : Place) (from : ℕ) → lines_from u at ≡ [] → AreRowsOf h (cells_left u at from) []
+ended_left h u at from e = subst (λ (ls : List LineView). AreRowsOf h (cells_of_lines u from ls) []) (sym e) refl
 
 pub target_is : (ts : List Listed) (xs : List What) (place : ℕ) (x : What) (t : Listed) → xs ≡ map (λ (y : Listed). y.0) ts → x ≡ get_or xs place x → slice_get ts place ≡ Some t → x ≡ t.0
 target_is ts xs place x t e is at =

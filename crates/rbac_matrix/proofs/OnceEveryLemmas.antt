@@ -65,11 +65,11 @@ begins_onward p policy number place start upto b begins below le = elim (cases_l
 module _ (s t : EveryRows) (policy : IsPolicy s.rows.index.now) (same : GoesOn s.rows t.rows) (below : AreBelow s.rows.index.now s.upto s.binding) (within : (s.binding ≡ 0) ⊎ (s.rows.from < length s.rows.universe.now.targets)) where
   -- none is left
   module _ (e : EndsAll s.rows.index.now s.rows.universe.now s.rows.reaches.now s.rows.at s.rows.from s.upto t.rows.at t.rows.seats.now) where
-    pub before_none : AreEveryLeft s []
+    before_none : AreEveryLeft s []
     unfolding AreEveryLeft
     before_none = none_left s.rows.index.now policy s.rows.universe.now s.rows.reaches.now s.rows.at s.rows.from s.upto s.binding t.rows.at t.rows.seats.now below within e
 
-    pub after_none : AreEveryLeft t []
+    after_none : AreEveryLeft t []
     unfolding AreEveryLeft
     after_none = past_left t.rows.index.now t.rows.universe.now t.rows.at t.rows.from t.binding (rw same.universe e.ended)
 

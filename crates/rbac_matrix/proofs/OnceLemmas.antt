@@ -14,8 +14,8 @@ use Rattle.rbac_matrix.specs.Passing.{EndsAll, FindsCell, Passes, cells_left, ro
 use Rattle.rbac_matrix.specs.declared.enumeration.Rows.{Rows}
 use Rattle.rbac_matrix.specs.declared.line.Place.{Place}
 use Rattle.rbac_matrix.proofs.BeginLemmas.{ready_line}
-use Rattle.rbac_matrix.proofs.EnumLemmas.{all_passes, cell_passes, comes_passes, here_passes, leads_pass}
-use Rattle.rbac_matrix.proofs.GoingLemmas.{fewer_left, fits_namespace, none_given}
+use Rattle.rbac_matrix.proofs.EnumLemmas.{all_passes, comes_passes, here_passes, leads_pass}
+use Rattle.rbac_matrix.proofs.GoingLemmas.{fewer_left, fits_namespace}
 use Rattle.rbac_matrix.proofs.HitLemmas.{from_zero, next_onward}
 use Rattle.rbac_matrix.proofs.PassLemmas.{no_head, passes_left, passes_rows, same_head}
 use Rattle.rbac_matrix.proofs.RowLemmas.{rows_one}
@@ -76,14 +76,13 @@ goes_then s t v p q = record {
   sought = q.sought ∙ p.sought;
 }
 
--- the same seats may be ready at another place; which line is known to be mixed says nothing of the
--- rows
-pub way_on : (s : Rows) (mixed : Option Place) (from low upto : ℕ) → IsReady s.index.now s.universe.now s.reaches.now s.at from low s.seats.now → IsUnderWay s upto → IsUnderWay (record s { mixed = mixed; from = from }) low
-way_on s mixed from low upto ready way = record {
+-- which line is known to be mixed says nothing of the rows
+pub mixed_way : (s : Rows) (mixed : Option Place) (upto : ℕ) → IsUnderWay s upto → IsUnderWay (record s { mixed = mixed }) upto
+mixed_way s mixed upto way = record {
   policy = way.policy;
   universe = way.universe;
   reaches = way.reaches;
-  ready = ready;
+  ready = way.ready;
   runs = way.runs;
   blocks = way.blocks;
   cluster_wide = way.cluster_wide;
@@ -133,10 +132,6 @@ module _ (s t : Rows) (policy : IsPolicy s.index.now) (same : GoesOn s t) where
     ended_cells : cells t ≡ []
     ended_cells = rw same.universe (ap (cells_of_lines s.universe.now t.from) e.ended)
 
-    pub ended_left : AreLeft s [] × AreLeft t []
-    unfolding AreLeft
-    ended_left = (none_given s.index.now.held (cells s) (all_passes s.index.now s.universe.now s.reaches.now policy s.at s.from t.at t.seats.now e), rw ended_cells refl)
-
     pub ended_passes : Passes s.index.now.held (cells s) (cells t) []
     ended_passes = subst (λ (cs : List Cell). Passes s.index.now.held (cells s) cs []) (sym ended_cells) (all_passes s.index.now s.universe.now s.reaches.now policy s.at s.from t.at t.seats.now e)
 
@@ -167,10 +162,6 @@ module _ (s t : Rows) (policy : IsPolicy s.index.now) (same : GoesOn s t) where
     module _ (v : Rows) (on : GoesOn t v) (at : v.at ≡ t.at) (next : v.from ≡ t.from + 1) where
       pub come_over : Passes t.index.now.held (cells t) (cells v) (row ∷ [])
       come_over = rw (on.universe, same.universe, same.index, at, next, from) (here_passes s.index.now s.universe.now s.reaches.now policy s.at s.from t.at t.seats.now place no f)
-
-    -- once it is passed, its row alone is left out
-    pub come_row : (v : Rows) → v.universe.now ≡ t.universe.now → v.at ≡ t.at → v.from ≡ t.from + 1 → Passes s.index.now.held (cells s) (cells v) (row ∷ [])
-    come_row v universe at next = rw (universe, same.universe, at, next, from) (cell_passes s.index.now s.universe.now s.reaches.now policy s.at s.from t.at t.seats.now place no f)
 
     -- whether its row is a repeat
     module _ (is : IsUniverse s.universe.now) (b : Bool) (told : (l : LineView) (ls : List LineView) (g : GrantView) → lines_from t.universe.now t.at ≡ l ∷ ls → slice_get t.index.now.grants no ≡ Some g → b ≡ repeats_at l.namespace g.binding.namespace) where

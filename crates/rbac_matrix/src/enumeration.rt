@@ -1,21 +1,14 @@
 //! The enumeration of a matrix's rows.
 
-ghost use Rattle.std.specs.Prelude.{length, ◌≡◌, ◌<◌, ◌≤◌, ◌+◌, ◌*◌, ℕ, List, is_some, ◌∷◌};
-ghost use Rattle.std.specs.Prelude.{MatchOption, Some, if◌then◌else◌, slice_get};
+ghost use Rattle.std.specs.Prelude.{length, ◌≡◌, ◌≤◌, ◌+◌, ◌*◌, ℕ, List, is_some, if◌then◌else◌};
 ghost use Rattle.std.specs.Iterator.{MakesProgress};
 ghost use Rattle.rbac_matrix.specs.Lines.{LineView};
 ghost use Rattle.rbac_reaches.specs.Reaches.{raised};
 ghost use Rattle.rbac_matrix.specs.Metering.{AreTouched};
-ghost use Rattle.rbac_model.specs.Universes.{IsUniverse, Listed, most_targets};
-ghost use Rattle.rbac_model.specs.Policies.{GrantView, IsPolicy};
+ghost use Rattle.rbac_model.specs.Universes.{IsUniverse, most_targets};
+ghost use Rattle.rbac_model.specs.Policies.{IsPolicy};
 ghost use Rattle.rbac_reaches.specs.Reaches.{AreReaches};
-ghost use Rattle.rbac_matrix.specs.Cursors.{IsCursorAt};
-ghost use Rattle.rbac_matrix.specs.Lines.{IsSettled, lines_from};
-ghost use Rattle.rbac_matrix.specs.Passing.{FindsCell, cell_of};
-ghost use Rattle.rbac_matrix.specs.RowTexts.{Shows};
-ghost use Rattle.rbac_matrix.specs.Seats.{Costs, seat_at};
-ghost use Rattle.rbac_matrix.specs.declared.line.Place.{Place};
-ghost use Rattle.rbac_universe.specs.Sets.{IsWithinLimits};
+ghost use Rattle.rbac_matrix.specs.Lines.{IsSettled};
 ghost use Rattle.rbac_matrix.specs.Enumeration.{AreEntered, BeginsAt, GivesFirstLeft, GoesOn, IsGoing};
 ghost use Rattle.rbac_matrix.specs.Enumeration.{IsUnderWay, left_at_most};
 
@@ -28,6 +21,7 @@ use crate::row::{Row, row_of};
 use crate::seat::Seat;
 use crate::seats::empty_all;
 use crate::start::{Start, seat_start};
+use crate::steps::next_cell;
 use rbac_index::Index;
 use rbac_reaches::{Meter, Reach};
 use rbac_universe::Universe;
@@ -101,7 +95,7 @@ pub(crate) fn rows_from<'r, 'm>(
     }
 }
 
-impl<'m> Rows<'_, 'm> {
+impl Rows<'_, '_> {
     // Moves the seats of the grants below `upto` past the place from which rows are left.
     pub(crate) fn pass(&mut self, upto: u32)
         requires going { (low : ℕ) × (low ≤ upto) × IsUnderWay self.old low }
@@ -110,11 +104,6 @@ impl<'m> Rows<'_, 'm> {
         ensures place { (self.new.at ≡ self.old.at) × (self.new.from ≡ self.old.from)
             × (self.new.returned ≡ self.old.returned) }
         ensures same { GoesOn self.old self.new }
-        ensures gains { (l : LineView) (ls : List LineView) (k : ℕ)
-            → lines_from self.old.universe.now self.old.at ≡ l ∷ ls
-            → IsCursorAt self.old.index.now l k → k < upto
-            → (seat_at self.old.seats.now k).place ≡ self.old.from
-            → Costs 0 1 self.old.seats.now self.new.seats.now self.old.meter self.new.meter }
     {
         let basis = Basis {
             index: self.index,
@@ -128,38 +117,6 @@ impl<'m> Rows<'_, 'm> {
         let kept = &mut self.kept;
         let meter = &mut self.meter;
         advance(basis, line, kept, from, upto, self.seats, meter);
-    }
-
-    // Gives the row at the place, by this grant, and moves the seats of the grants below `end` past
-    // the place.
-    pub(crate) fn give(&mut self, no: u32, end: u32) -> Option<Row<'m>>
-        requires way { (low : ℕ) × (low ≤ end) × IsUnderWay self.old low }
-        requires found { (at : Place) × (from : ℕ) × (upto : ℕ)
-            × FindsCell self.old.index.now self.old.universe.now self.old.reaches.now
-            at from upto self.old.at self.old.seats.now self.old.from no }
-        requires below { no < end }
-        ensures row { MatchOption result ⊥ (λ row.
-            (l : LineView) (ls : List LineView) (t : Listed) (g : GrantView)
-            → lines_from self.old.universe.now self.old.at ≡ l ∷ ls
-            → slice_get self.old.universe.now.targets self.old.from ≡ Some t
-            → slice_get self.old.index.now.grants no ≡ Some g
-            → Shows row (record { cell = cell_of l t; binding = g.binding })) }
-        ensures way { IsUnderWay self.new end }
-        ensures place { (self.new.at ≡ self.old.at) × (self.new.from ≡ self.old.from) }
-        ensures returned { self.new.returned ≡ raised self.old.returned 1 }
-        ensures limits { IsWithinLimits self.old.universe.now }
-        ensures same { GoesOn self.old self.new }
-    {
-        let index = self.index;
-        let universe = self.universe;
-        let place = self.from;
-        let line = line_at(universe, self.at)?;
-        let targets = universe.targets();
-        let target = &targets[place as usize];
-        let grant = index.grant(no);
-        self.pass(end);
-        self.returned = self.returned.saturating_add(1);
-        Some(row_of(line, target, grant.binding))
     }
 
     /// How many entries of reaches were read: no fewer than the rows that were returned, and no
@@ -195,10 +152,34 @@ impl<'m> Iterator for Rows<'_, 'm> {
             ≡ raised self.old.returned (if is_some result then 1 else 0) }
         ensures same { GoesOn self.old self.new }
     {
-        let (place, no) = self.come(0)?;
-        let all = self.index.len();
-        let row = self.give(no, all)?;
+        let index = self.index;
+        let universe = self.universe;
+        let basis = Basis {
+            index,
+            universe,
+            reaches: self.reaches,
+        };
+        let kept = &mut self.kept;
+        let (at, found) = next_cell(
+            basis,
+            self.at,
+            self.from,
+            0,
+            kept,
+            self.seats,
+            &mut self.meter,
+        );
+        self.at = at;
+        let (place, no) = found?;
+        let line = line_at(universe, at)?;
+        let all = index.len();
+        let kept = &mut self.kept;
+        let meter = &mut self.meter;
+        advance(basis, line, kept, place, all, self.seats, meter);
+        let targets = universe.targets();
         self.from = place + 1;
-        Some(row)
+        self.returned = self.returned.saturating_add(1);
+        let grant = index.grant(no);
+        Some(row_of(line, &targets[place as usize], grant.binding))
     }
 }

@@ -10,8 +10,12 @@ ghost use Rattle.rbac_matrix.specs.Enumeration.{AreEntered, GoesOn};
 ghost use Rattle.rbac_matrix.specs.EveryLeft.{GivesEvery, IsGoingEvery, PassesBinding};
 ghost use Rattle.rbac_matrix.specs.EveryLeft.{every_at_most};
 
+use crate::advance::advance;
+use crate::basis::Basis;
 use crate::enumeration::Rows;
-use crate::row::Row;
+use crate::line::line_at;
+use crate::row::{Row, row_of};
+use crate::steps::next_cell;
 use rbac_index::Index;
 use rbac_reaches::Meter;
 
@@ -74,11 +78,38 @@ impl<'m> Iterator for EveryRows<'_, 'm> {
             ≡ raised self.old.rows.returned (if is_some result then 1 else 0) }
         ensures same { GoesOn self.old.rows self.new.rows }
     {
-        let (_, no) = self.rows.come(self.upto)?;
-        let (binding, end) = after_binding(self.rows.index, no);
-        let row = self.rows.give(no, end)?;
+        let upto = self.upto;
+        let rows = &mut self.rows;
+        let index = rows.index;
+        let universe = rows.universe;
+        let basis = Basis {
+            index,
+            universe,
+            reaches: rows.reaches,
+        };
+        let kept = &mut rows.kept;
+        let (at, found) = next_cell(
+            basis,
+            rows.at,
+            rows.from,
+            upto,
+            kept,
+            rows.seats,
+            &mut rows.meter,
+        );
+        rows.at = at;
+        let (place, no) = found?;
+        let line = line_at(universe, at)?;
+        let grant = index.grant(no);
+        let (binding, end) = after_binding(index, no);
+        let kept = &mut rows.kept;
+        let meter = &mut rows.meter;
+        advance(basis, line, kept, place, end, rows.seats, meter);
+        let targets = universe.targets();
+        rows.from = place;
+        rows.returned = rows.returned.saturating_add(1);
         self.binding = binding;
         self.upto = end;
-        Some(row)
+        Some(row_of(line, &targets[place as usize], grant.binding))
     }
 }

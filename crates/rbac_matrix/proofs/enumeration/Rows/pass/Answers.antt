@@ -1,11 +1,7 @@
-use Rattle.std.proofs.Common.{◌∙◌, subst, sym}
-use Rattle.rbac_matrix.specs.Cursors.{IsCursorAt}
-use Rattle.rbac_matrix.specs.Lines.{LineView}
 use Rattle.rbac_matrix.specs.Shown.{line_of}
 use Rattle.rbac_matrix.proofs.BlockLemmas.{blocks_here}
 use Rattle.rbac_matrix.proofs.BeginLemmas.{ready_line}
 use Rattle.rbac_matrix.proofs.LineLemmas.{are_real}
-use Rattle.rbac_matrix.proofs.PassLemmas.{same_head}
 use Rattle.rbac_matrix.proofs.TouchLemmas.{metered_on}
 use Rattle.rbac_matrix.proofs.enumeration.Rows.pass.Goals as goal
 
@@ -28,6 +24,3 @@ returns-clause-way c = record {
 
 pub advance-requires-clause-blocks : goal.advance-requires-clause-blocks
 advance-requires-clause-blocks c = c.requires.going.2.blocks (line_of c.in-Some.line) _ c.in-Some.ensures.line
-
-pub returns-clause-gains : goal.returns-clause-gains
-returns-clause-gains c = λ l ls k e is below stands. c.advance.ensures.gains k (subst (λ (x : LineView). IsCursorAt c.args.self.now.index.now x k) (same_head l (line_of c.in-Some.line) ls _ (sym e ∙ c.in-Some.ensures.line)) is) below stands

@@ -4,7 +4,6 @@ use Rattle.rbac_matrix.proofs.BlockLemmas.{before_seated, blocks_here}
 use Rattle.rbac_matrix.proofs.BeginLemmas.{ready_line}
 use Rattle.rbac_matrix.proofs.EnumLemmas.{ready_past}
 use Rattle.rbac_matrix.proofs.LineLemmas.{are_real}
-use Rattle.rbac_matrix.proofs.OnceLemmas.{way_on}
 use Rattle.rbac_matrix.proofs.TouchLemmas.{metered_on}
 use Rattle.rbac_matrix.proofs.enumeration.Rows.pass_to.Goals as goal
 
@@ -37,6 +36,16 @@ returns-clause-going c =
 
 pub returns-in_default-clause-going : goal.returns-in_default-clause-going
 returns-in_default-clause-going c =
-    let s = c.args.self.now in
     let way = c.requires.going in
-    way_on s s.mixed c.args.place 0 0 (ready_past s.index.now s.universe.now s.reaches.now s.at s.from 0 s.seats.now way.ready c.in_default.ensures.line c.args.place 0) way
+    record {
+      policy = way.policy;
+      universe = way.universe;
+      reaches = way.reaches;
+      ready = ready_past c.args.self.now.index.now c.args.self.now.universe.now c.args.self.now.reaches.now c.args.self.now.at c.args.self.now.from 0 c.args.self.now.seats.now way.ready c.in_default.ensures.line c.args.place 0;
+      runs = way.runs;
+      blocks = way.blocks;
+      cluster_wide = way.cluster_wide;
+      rows = way.rows;
+      is_returned = way.is_returned;
+      metered = way.metered;
+    }

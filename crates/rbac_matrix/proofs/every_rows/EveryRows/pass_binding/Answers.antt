@@ -2,7 +2,7 @@ use Rattle.std.proofs.Common.{ℕ, ◌∙◌, ◌+◌, arith, ap, inr, refl}
 use Rattle.std.specs.Prelude.{Some}
 use Rattle.rbac_matrix.proofs.EveryLemmas.{passes_below, passes_own}
 use Rattle.rbac_matrix.proofs.OnceEveryLemmas.{begins_first}
-use Rattle.rbac_matrix.proofs.OnceLemmas.{way_on}
+use Rattle.rbac_matrix.proofs.OnceLemmas.{mixed_way}
 use Rattle.rbac_matrix.proofs.every_rows.EveryRows.pass_binding.Goals as goal
 
 pub pass-requires-clause-going : goal.pass-requires-clause-going
@@ -20,7 +20,7 @@ returns-clause-place c =
 
 pub returns-clause-going : goal.returns-clause-going
 returns-clause-going c = record {
-  way = way_on c.pass.new.self (Some c.pass.new.self.at) _ _ _ c.pass.ensures.way.ready c.pass.ensures.way;
+  way = mixed_way c.pass.new.self (Some c.pass.new.self.at) c.after_binding-binding.result.1 c.pass.ensures.way;
   below = rw c.pass.ensures.same.index (passes_below c.args.self.now.rows.index.now c.args.no c.after_binding-binding.result.0 c.after_binding-binding.result.1 c.after_binding-binding.ensures);
   within = inr (rw (c.pass.ensures.place.1, c.pass.ensures.same.universe) c.requires.within);
 }

@@ -1,82 +1,143 @@
-use Rattle.std.proofs.Common.{arith, inr}
-use Rattle.std.proofs.lemmas.Option.{slice_get_within}
-use Rattle.rbac_matrix.specs.EveryLeft.{AreEveryLeft, pairs_left}
-use Rattle.rbac_matrix.specs.Passing.{row_on}
-use Rattle.rbac_matrix.specs.declared.every_rows.EveryRows.{EveryRows}
-use Rattle.rbac_matrix.proofs.EveryLemmas.{passes_below, passes_own, passes_split, split_fewer, split_those}
-use Rattle.rbac_matrix.proofs.GoingLemmas.{found_ready}
-use Rattle.rbac_matrix.proofs.OnceEveryLemmas.{after_none, before_none}
+use Rattle.std.proofs.Common.{◌≡◌, ◌∙◌, ◌+◌, ap, sym, subst, length, arith, inr}
+use Rattle.std.proofs.lemmas.List.{length-map}
+use Rattle.std.proofs.lemmas.Option.{same_Some, slice_get_within}
+use Rattle.rbac_model.specs.Policies.{GrantView}
+use Rattle.rbac_model.specs.Sources.{grant_of}
+use Rattle.rbac_model.specs.Universes.{Listed}
+use Rattle.rbac_matrix.specs.Lines.{LineView}
+use Rattle.rbac_matrix.specs.Shown.{line_of}
+use Rattle.rbac_matrix.specs.EveryLeft.{AreEveryLeft, pairs_from, pairs_left}
+use Rattle.rbac_matrix.specs.Passing.{cells_left, row_on}
+use Rattle.rbac_matrix.specs.Seats.{AreSeated, AreSeatedAbout}
+use Rattle.rbac_matrix.proofs.EveryLemmas.{none_left, passes_below, passes_own, passes_split, past_left, split_fewer, split_those}
+use Rattle.rbac_matrix.proofs.BlockLemmas.{blocks_here}
+use Rattle.rbac_matrix.proofs.LineLemmas.{are_real}
 use Rattle.rbac_matrix.proofs.PairLemmas.{hit_granted}
+use Rattle.rbac_matrix.proofs.PassLemmas.{same_head}
+use Rattle.rbac_matrix.proofs.GoingLemmas.{fits_namespace, gains_on, key_is, metered_after, own_row, ready_after, target_is}
 use Rattle.rbac_matrix.proofs.every_rows.EveryRowsIterator.next.Goals as goal
 
-pub returns-in_err-no-clause-steps : goal.returns-in_err-no-clause-steps
-returns-in_err-no-clause-steps c =
-    let s = c.args.self.now in
-    let t : EveryRows = record { rows = c.come.new.self; binding = s.binding; upto = s.upto } in
+pub returns-in_err-place-clause-steps : goal.returns-in_err-place-clause-steps
+unfolding AreEveryLeft
+returns-in_err-place-clause-steps c =
+    let e = rw c.in_err-place.was at c.next_cell-found.ensures.row in
     rw c.from_residual.ensures (
-      before_none s t c.requires.way.policy c.come.ensures.same c.requires.below c.requires.within c.in_err-no.ensures.found,
-      after_none s t c.requires.way.policy c.come.ensures.same c.requires.below c.requires.within c.in_err-no.ensures.found,
+      none_left c.args.self.now.rows.index.now c.requires.way.policy c.args.self.now.rows.universe.now c.args.self.now.rows.reaches.now c.args.self.now.rows.at c.args.self.now.rows.from c.args.self.now.upto c.args.self.now.binding c.next_cell-found.result.0 c.next_cell-found.new.seats c.requires.below c.requires.within e,
+      past_left c.args.self.now.rows.index.now c.args.self.now.rows.universe.now c.next_cell-found.result.0 c.args.self.now.rows.from c.args.self.now.binding e.ended,
     )
 
-pub returns-in_err-no-clause-going : goal.returns-in_err-no-clause-going
-returns-in_err-no-clause-going c = record {
-  way = c.come.ensures.way c.args.self.now.upto (c.in_err-no.ensures.found.ready c.come.new.self.from c.args.self.now.upto);
-  below = rw c.come.ensures.same.index c.requires.below;
-  within = rw (c.in_err-no.ensures.place, c.come.ensures.same.universe) c.requires.within;
-}
+pub returns-in_err-place-clause-going : goal.returns-in_err-place-clause-going
+returns-in_err-place-clause-going c =
+    let e = rw c.in_err-place.was at c.next_cell-found.ensures.row in
+    record {
+      way = record {
+        policy = c.requires.way.policy;
+        universe = c.requires.way.universe;
+        reaches = c.requires.way.reaches;
+        ready = e.ready c.args.self.now.rows.from c.args.self.now.upto;
+        runs = c.next_cell-found.ensures.runs;
+        blocks = c.next_cell-found.ensures.blocks;
+        cluster_wide = c.requires.way.cluster_wide;
+        rows = c.requires.way.rows;
+        is_returned = c.requires.way.is_returned;
+        metered = c.next_cell-found.ensures.metered c.args.self.now.rows.start c.args.self.now.rows.sought c.requires.way.rows c.requires.way.metered;
+      };
+      below = c.requires.below;
+      within = c.requires.within;
+    }
 
-pub after_binding-binding-requires : goal.after_binding-binding-requires
-after_binding-binding-requires c =
-    let hit = c.in_ok-no.ensures.found.found.next.hit in
-    rw c.come.ensures.same.index (slice_get_within c.args.self.now.rows.index.now.grants c.in_ok-no.no hit.grant hit.grant_at)
+pub advance-requires-clause-blocks : goal.advance-requires-clause-blocks
+advance-requires-clause-blocks c = c.next_cell-found.ensures.blocks (line_of c.in_ok-line.line) _ c.in_ok-line.ensures.line
 
-pub give-requires-clause-below : goal.give-requires-clause-below
-give-requires-clause-below c = passes_own _ _ _ _ c.after_binding-binding.ensures
+pub advance-requires-clause-seated : goal.advance-requires-clause-seated
+advance-requires-clause-seated c =
+    let f = rw c.in_ok-place.was at c.next_cell-found.ensures.row in
+    let line = same_head (line_of c.in_ok-line.line) f.line _ f.others (sym c.in_ok-line.ensures.line ∙ f.line_at) in
+    let lt = passes_own c.args.self.now.rows.index.now c.in_ok-place.no c.after_binding-binding.result.0 c.after_binding-binding.result.1 c.after_binding-binding.ensures in
+    subst (λ (l : LineView). AreSeatedAbout c.args.self.now.rows.index.now l c.args.self.now.rows.reaches.now c.in_ok-place.place c.after_binding-binding.result.1 c.next_cell-found.new.seats) (sym line) (f.found.about c.after_binding-binding.result.1 lt)
 
-pub give-requires-clause-way : goal.give-requires-clause-way
-give-requires-clause-way c =
-    let low = give-requires-clause-below c in
-    (c.in_ok-no.no, omega (arith, low), c.come.ensures.way c.in_ok-no.no (rw c.in_ok-no.ensures.place (found_ready _ _ _ _ _ _ _ _ _ _ c.in_ok-no.ensures.found)))
+pub advance-requires-clause-real : goal.advance-requires-clause-real
+advance-requires-clause-real c = are_real c.args.self.now.rows.index.now c.args.self.now.rows.universe.now c.args.self.now.rows.reaches.now (line_of c.in_ok-line.line) c.requires.way.policy c.requires.way.universe c.requires.way.reaches c.line_at.ensures.limits.targets
 
-pub give-requires-clause-found : goal.give-requires-clause-found
-give-requires-clause-found c =
-    let s = c.args.self.now in
-    (s.rows.at, s.rows.from, s.upto, rw (c.come.ensures.same.index, c.come.ensures.same.universe, c.come.ensures.reaches, c.in_ok-no.ensures.place) c.in_ok-no.ensures.found)
+pub advance-requires-clause-stands : goal.advance-requires-clause-stands
+advance-requires-clause-stands c =
+    let f = rw c.in_ok-place.was at c.next_cell-found.ensures.row in
+    let within = slice_get_within c.args.self.now.rows.universe.now.targets c.in_ok-place.place f.found.next.hit.target f.found.next.hit.target_at in
+    omega (arith, within, c.line_at.ensures.limits.targets)
+
+pub grant-grant-requires : goal.grant-grant-requires
+grant-grant-requires c =
+    let f = rw c.in_ok-place.was at c.next_cell-found.ensures.row in
+    slice_get_within c.args.self.now.rows.index.now.grants c.in_ok-place.no f.found.next.hit.grant f.found.next.hit.grant_at
+
+pub bounds-targets-place : goal.bounds-targets-place
+bounds-targets-place c =
+    let f = rw c.in_ok-place.was at c.next_cell-found.ensures.row in
+    let within = slice_get_within c.args.self.now.rows.universe.now.targets c.in_ok-place.place f.found.next.hit.target f.found.next.hit.target_at in
+    let e = ap length c.targets-targets.ensures.targets in
+    omega (arith, within, e, length-map c.args.self.now.rows.universe.now.targets (λ (t : Listed). t.0))
+
+pub row_of-requires : goal.row_of-requires
+row_of-requires c =
+    let f = rw c.in_ok-place.was at c.next_cell-found.ensures.row in
+    let hit = f.found.next.hit in
+    own_row f.line (line_of c.in_ok-line.line) c.index-targets-place.result hit.target
+    (same_head (line_of c.in_ok-line.line) f.line _ f.others (sym c.in_ok-line.ensures.line ∙ f.line_at))
+    (target_is c.args.self.now.rows.universe.now.targets c.targets-targets.result.now c.in_ok-place.place c.index-targets-place.result hit.target c.targets-targets.ensures.targets c.index-targets-place.is hit.target_at)
+    (fits_namespace c.args.self.now.rows.universe.now c.requires.way.universe f.line c.in_ok-place.place hit.target hit.target_at hit.fits)
 
 pub returns-clause-steps : goal.returns-clause-steps
 unfolding AreEveryLeft
 returns-clause-steps c =
-    let s = c.args.self.now in
-    let p = s.rows.index.now in
-    let u = s.rows.universe.now in
-    let f = c.in_ok-no.ensures.found in
+    let f = rw c.in_ok-place.was at c.next_cell-found.ensures.row in
     let hit = f.found.next.hit in
-    let passes = rw c.come.ensures.same.index at c.after_binding-binding.ensures in
-    let splits = passes_split p c.requires.way.policy u _ c.in_ok-no.no _ _ passes s.rows.reaches.now s.rows.at s.rows.from s.upto s.binding c.come.new.self.at c.come.new.self.seats.now c.requires.below c.requires.within f in
+    let line = same_head (line_of c.in_ok-line.line) f.line _ f.others (sym c.in_ok-line.ensures.line ∙ f.line_at) in
+    let target = target_is c.args.self.now.rows.universe.now.targets c.targets-targets.result.now c.in_ok-place.place c.index-targets-place.result hit.target c.targets-targets.ensures.targets c.index-targets-place.is hit.target_at in
+    let key = key_is f.line (line_of c.in_ok-line.line) c.index-targets-place.result hit.target line target in
+    let grant : grant_of c.grant-grant.result ≡ hit.grant = same_Some (grant_of c.grant-grant.result) hit.grant (sym c.grant-grant.ensures.grant ∙ hit.grant_at) in
     record {
-      row = row_on p u f.line _ c.in_ok-no.no hit;
-      shows = c.in_ok-row.ensures.row f.line f.others hit.target hit.grant (rw c.come.ensures.same.universe f.line_at) (rw (c.come.ensures.same.universe, c.in_ok-no.ensures.place) hit.target_at) (rw c.come.ensures.same.index hit.grant_at);
-      on = (f.others, rw (c.give.ensures.same.universe, c.come.ensures.same.universe, c.give.ensures.place.0) f.line_at);
-      left = rw (c.give.ensures.same.index, c.give.ensures.same.universe, c.come.ensures.same.index, c.come.ensures.same.universe, c.give.ensures.place.0, c.give.ensures.place.1, c.in_ok-no.ensures.place) (split_those p _ _ _ splits (hit_granted p c.requires.way.policy u f.line _ c.in_ok-no.no hit));
+      row = row_on c.args.self.now.rows.index.now c.args.self.now.rows.universe.now f.line c.in_ok-place.place c.in_ok-place.no hit;
+      shows = record {
+        texts = c.row_of.ensures.texts ∙ key;
+        binding = c.row_of.ensures.binding ∙ ap (λ (g : GrantView). g.binding) grant;
+      };
+      on = (f.others, f.line_at);
+      left = split_those c.args.self.now.rows.index.now (pairs_from c.args.self.now.rows.index.now.held.bindings c.args.self.now.binding (cells_left c.args.self.now.rows.universe.now c.args.self.now.rows.at c.args.self.now.rows.from)) (pairs_from c.args.self.now.rows.index.now.held.bindings c.after_binding-binding.result.0 (cells_left c.args.self.now.rows.universe.now c.next_cell-found.result.0 c.in_ok-place.place)) (row_on c.args.self.now.rows.index.now c.args.self.now.rows.universe.now f.line c.in_ok-place.place c.in_ok-place.no hit)
+          (passes_split c.args.self.now.rows.index.now c.requires.way.policy c.args.self.now.rows.universe.now c.in_ok-place.place c.in_ok-place.no c.after_binding-binding.result.0 c.after_binding-binding.result.1 c.after_binding-binding.ensures c.args.self.now.rows.reaches.now c.args.self.now.rows.at c.args.self.now.rows.from c.args.self.now.upto c.args.self.now.binding c.next_cell-found.result.0 c.next_cell-found.new.seats c.requires.below c.requires.within f) (hit_granted c.args.self.now.rows.index.now c.requires.way.policy c.args.self.now.rows.universe.now f.line c.in_ok-place.place c.in_ok-place.no hit);
     }
 
 pub returns-clause-going : goal.returns-clause-going
 returns-clause-going c =
-    let hit = c.in_ok-no.ensures.found.found.next.hit in
+    let f = rw c.in_ok-place.was at c.next_cell-found.ensures.row in
+    let line = same_head (line_of c.in_ok-line.line) f.line _ f.others (sym c.in_ok-line.ensures.line ∙ f.line_at) in
+    let lt = passes_own c.args.self.now.rows.index.now c.in_ok-place.no c.after_binding-binding.result.0 c.after_binding-binding.result.1 c.after_binding-binding.ensures in
     record {
-      way = c.give.ensures.way;
-      below = rw c.give.ensures.same.index (passes_below _ _ _ _ c.after_binding-binding.ensures);
-      within = inr (rw (c.give.ensures.place.1, c.in_ok-no.ensures.place, c.give.ensures.same.universe, c.come.ensures.same.universe) (slice_get_within c.args.self.now.rows.universe.now.targets _ hit.target hit.target_at));
+      way = record {
+        policy = c.requires.way.policy;
+        universe = c.requires.way.universe;
+        reaches = c.requires.way.reaches;
+        ready = ready_after c.args.self.now.rows.index.now c.args.self.now.rows.universe.now c.args.self.now.rows.reaches.now c.args.self.now.rows.at c.args.self.now.rows.from c.args.self.now.upto c.next_cell-found.result.0 c.next_cell-found.new.seats c.advance.new.seats c.in_ok-place.place c.in_ok-place.no c.after_binding-binding.result.1 f
+            (subst (λ (l : LineView). AreSeated c.args.self.now.rows.index.now l c.args.self.now.rows.reaches.now c.in_ok-place.place c.after_binding-binding.result.1 c.advance.new.seats) line c.advance.ensures.seated);
+        runs = rw c.advance.ensures.runs c.next_cell-found.ensures.runs;
+        blocks = blocks_here c.args.self.now.rows.index.now c.args.self.now.rows.universe.now c.next_cell-found.result.0 (line_of c.in_ok-line.line) _ c.advance.new.kept c.advance.new.seats c.in_ok-line.ensures.line c.advance.ensures.blocks;
+        cluster_wide = c.requires.way.cluster_wide;
+        rows = c.requires.way.rows + 1;
+        is_returned = omega (arith, c.saturating_add-rows.ensures, c.requires.way.is_returned);
+        metered = metered_after c.args.self.now.rows.index.now c.args.self.now.rows.universe.now c.args.self.now.rows.reaches.now c.args.self.now.rows.at c.args.self.now.rows.from c.args.self.now.upto c.next_cell-found.result.0 c.next_cell-found.new.seats c.advance.new.seats c.in_ok-place.place c.in_ok-place.no c.after_binding-binding.result.1 f
+            c.args.self.now.rows.start c.args.self.now.rows.sought c.requires.way.rows c.next_cell-found.new.meter c.advance.new.meter (c.next_cell-found.ensures.metered c.args.self.now.rows.start c.args.self.now.rows.sought c.requires.way.rows c.requires.way.metered) lt
+            (gains_on c.args.self.now.rows.index.now (line_of c.in_ok-line.line) f.line c.in_ok-place.place c.after_binding-binding.result.1 c.next_cell-found.new.seats c.advance.new.seats c.next_cell-found.new.meter c.advance.new.meter line c.advance.ensures.gains);
+      };
+      below = passes_below c.args.self.now.rows.index.now c.in_ok-place.no c.after_binding-binding.result.0 c.after_binding-binding.result.1 c.after_binding-binding.ensures;
+      within = inr (slice_get_within c.args.self.now.rows.universe.now.targets c.in_ok-place.place f.found.next.hit.target f.found.next.hit.target_at);
     }
 
 pub returns-clause-goes : goal.returns-clause-goes
 unfolding pairs_left
 returns-clause-goes c =
-    let s = c.args.self.now in
-    let passes = rw c.come.ensures.same.index at c.after_binding-binding.ensures in
-    let splits = passes_split s.rows.index.now c.requires.way.policy s.rows.universe.now _ c.in_ok-no.no _ _ passes s.rows.reaches.now s.rows.at s.rows.from s.upto s.binding c.come.new.self.at c.come.new.self.seats.now c.requires.below c.requires.within c.in_ok-no.ensures.found in
+    let f = rw c.in_ok-place.was at c.next_cell-found.ensures.row in
+    let fewer = split_fewer c.args.self.now.rows.index.now (pairs_from c.args.self.now.rows.index.now.held.bindings c.args.self.now.binding (cells_left c.args.self.now.rows.universe.now c.args.self.now.rows.at c.args.self.now.rows.from)) (pairs_from c.args.self.now.rows.index.now.held.bindings c.after_binding-binding.result.0 (cells_left c.args.self.now.rows.universe.now c.next_cell-found.result.0 c.in_ok-place.place)) _ (passes_split c.args.self.now.rows.index.now c.requires.way.policy c.args.self.now.rows.universe.now c.in_ok-place.place c.in_ok-place.no c.after_binding-binding.result.0 c.after_binding-binding.result.1 c.after_binding-binding.ensures c.args.self.now.rows.reaches.now c.args.self.now.rows.at c.args.self.now.rows.from c.args.self.now.upto c.args.self.now.binding c.next_cell-found.result.0 c.next_cell-found.new.seats c.requires.below c.requires.within f) in
     record {
-      on = λ _. (returns-clause-going c, tt, rw (c.give.ensures.same.index, c.give.ensures.same.universe, c.come.ensures.same.index, c.come.ensures.same.universe, c.give.ensures.place.0, c.give.ensures.place.1, c.in_ok-no.ensures.place) (split_fewer s.rows.index.now _ _ _ splits));
+      on = λ _. (returns-clause-going c, tt, fewer);
       keeps = returns-clause-going c;
       rests = λ _. tt;
     }
