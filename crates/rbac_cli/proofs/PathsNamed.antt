@@ -1,4 +1,4 @@
--- The paths over the users and groups that are named, each once.
+-- The paths and the ways over the users and groups that are named, each once.
 use Rattle.std.proofs.Common.{◌≡◌, ◌↔◌, ◌∙◌, ℕ, List, [], ◌∷◌, All, Contains, ap, ap₂, get_or, inl, inr, subst, sym, ◌<◌, length, arith}
 use Rattle.std.specs.Cmp.Lexicographic.{slice_cmp}
 use Rattle.std.proofs.lemmas.List.{get_or_default}
@@ -9,8 +9,10 @@ use Rattle.rbac_model.specs.Lists.{by_name, IsAscendingBy, IsOnceEach}
 use Rattle.rbac_model.specs.Policies.{PolicyView}
 use Rattle.rbac_model.specs.Unions.{who_name}
 use Rattle.rbac_document.specs.Names.{principal_name}
+use Rattle.rbac_paths.specs.Access.{AccessView}
 use Rattle.rbac_paths.specs.Paths.{ArePathsOf, PathView}
 use Rattle.rbac_paths.specs.Principals.{IsOneWith}
+use Rattle.rbac_paths.specs.WaysTo.{AreWaysTo, WayView}
 use Rattle.rbac_paths.specs.declared.steps.Step.{Step}
 
 -- who is given no groups is named by its key alone
@@ -38,5 +40,13 @@ module _ (principals named : List Who) (same : (who : Who) → Contains principa
   paths_too p steps who xs (all, exact, are) = (
     all,
     λ other. (λ c. (one_too who other).0 ((exact other).0 c), λ w. (exact other).1 ((one_too who other).1 w)),
+    are,
+  )
+
+  -- and so are the ways to what is asked for
+  pub ways_too : (p : PolicyView) (steps : List Step) (asked : AccessView) (xs : List WayView) → AreWaysTo p principals steps asked xs → AreWaysTo p named steps asked xs
+  ways_too p steps asked xs (all, exact, are) = (
+    all,
+    λ who. (λ c. (same who).0 ((exact who).0 c), λ c. (exact who).1 ((same who).1 c)),
     are,
   )

@@ -3,11 +3,11 @@ use Rattle.rbac_catalogue.specs.Catalogue.{CatalogueView}
 use Rattle.rbac_paths.specs.Access.{AccessView}
 use Rattle.rbac_paths.specs.WaysTo.{AreWaysTo}
 use Rattle.rbac_paths.specs.declared.steps.Step.{Step}
-use Rattle.rbac_paths.proofs.WaysNamed.{ways_too}
 use Rattle.rbac_question.specs.declared.command.Action.TheVariants.{WaysTo}
 use Rattle.rbac_cli.specs.Meant.{IsMeant}
 use Rattle.rbac_cli.specs.Out.{ways_text}
 use Rattle.rbac_cli.specs.declared.exports.Exports.TheVariants.{Single}
+use Rattle.rbac_cli.proofs.PathsNamed.{ways_too}
 use Rattle.rbac_cli.proofs.ways.print_ways.Goals as goal
 
 pub returns : goal.returns
