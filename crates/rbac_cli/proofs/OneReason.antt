@@ -12,7 +12,7 @@ use Rattle.rbac_model.specs.Policies.{PolicyView, GrantView, GrantAllows, IsWhy}
 use Rattle.rbac_catalogue.specs.declared.entry.Entry.{Entry}
 use Rattle.rbac_question.specs.declared.command.Question.{Question}
 use Rattle.rbac_text.specs.Why.{why_text}
-use Rattle.rbac_cli.specs.Out.{IsWhyText, IsReason}
+use Rattle.rbac_cli.specs.Out.{IsWhyText, ComesAfterYes}
 use Rattle.rbac_cli.proofs.OneMeant.{one_meant}
 
 pub one_place : {X : Type 0} (P : X → Type 0) (xs : List X) (i j : ℕ) (x y : X) → IsFirstAt P xs i x → IsFirstAt P xs j y → i ≡ j
@@ -48,7 +48,7 @@ module _ (p : PolicyView) (entries : List Entry) (who : Who) (q : Question) (tex
       let here = subst (λ x. IsWhy p who m q.verb x g i) same.0 (subst (λ x. IsWhy p who x q.verb t g i) same.1 is) in
       e ∙ one_line p who m q.verb u g k i j here are ∙ sym d
 
-  pub one_reason : (quiet why : Bool) → IsReason p entries who quiet why q text → IsReason p entries who quiet why q other → text ≡ other
+  pub one_reason : (quiet why : Bool) → ComesAfterYes p entries who quiet why q text → ComesAfterYes p entries who quiet why q other → text ≡ other
   one_reason false true a b = one_why a b
   one_reason false false a b = a ∙ sym b
   one_reason true why a b = a ∙ sym b

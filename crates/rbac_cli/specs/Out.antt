@@ -73,18 +73,18 @@ IsWhyText p entries who q text =
 
 -- what comes after `yes`: with `--why` and without `-q`, the line that explains it; otherwise
 -- nothing
-abbrev pub IsReason : PolicyView → List Entry → Who → Bool → Bool → Question → Text → Type 0
-IsReason p entries who false true q text = IsWhyText p entries who q text
-IsReason p entries who false false q text = text ≡ []
-IsReason p entries who true why q text = text ≡ []
+abbrev pub ComesAfterYes : PolicyView → List Entry → Who → Bool → Bool → Question → Text → Type 0
+ComesAfterYes p entries who false true q text = IsWhyText p entries who q text
+ComesAfterYes p entries who false false q text = text ≡ []
+ComesAfterYes p entries who true why q text = text ≡ []
 
 -- the line of a rule that somebody has
-abbrev pub rule_line : RuleView → Text
-rule_line x = grant_text x.grant x.subject_place
+abbrev pub effective_line : RuleView → Text
+effective_line x = grant_text x.grant x.subject_place
 
 -- a line for each of these rules, in order
 abbrev pub rules_text : List RuleView → Text
-rules_text xs = flat_map rule_line xs
+rules_text xs = flat_map effective_line xs
 
 -- which findings are asked for: those of the codes of `--only`, if it is given, and with
 -- `--skip-system` not those about Kubernetes' own objects
@@ -137,7 +137,7 @@ changes_status (x ∷ xs) = One
 abbrev pub Answers : Exports → Action → List ℕ → Status → Type 0
 Answers (Single l) (CanI who quiet why q) text status =
     (IsAllowed l.policy.held l.catalogue.entries who q
-    × ((reason : Text) × IsReason l.policy l.catalogue.entries who quiet why q reason
+    × ((reason : Text) × ComesAfterYes l.policy l.catalogue.entries who quiet why q reason
     × (text ≡ line_unless quiet (codes "yes") ++ reason))
     × (status ≡ Zero))
     ⊎ (IsDenied l.policy.held l.catalogue.entries who q × (text ≡ line_unless quiet (codes "no"))

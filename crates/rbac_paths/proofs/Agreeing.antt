@@ -11,7 +11,7 @@ use Rattle.rbac_paths.specs.NodeLists.{IsNode}
 use Rattle.rbac_paths.specs.Nodes.{NodeView, Somebody, ClusterRoleIn, OwnRole, EverythingIn}
 use Rattle.rbac_paths.specs.Paths.{ArePaths, ArePathsOf, GoesTo, IsPath, LeadsTo, PathView}
 use Rattle.rbac_paths.specs.Principals.{AreToldByKeys, IsOneWith}
-use Rattle.rbac_paths.specs.WaysTo.{AreWays, AreWaysTo, GoesBack, IsComeTo, IsWay, WayView}
+use Rattle.rbac_paths.specs.WaysTo.{AreWays, AreWaysTo, GoesBack, IsComeTo, IsWayOn, WayView}
 use Rattle.rbac_paths.specs.declared.steps.Step.{Step}
 use Rattle.rbac_paths.proofs.OnePaths.{paths_to}
 
@@ -92,7 +92,7 @@ module _ (principals : List Who) (told : AreToldByKeys principals) (who : Who) (
       leads_there : Any (λ x. x.node ≡ start) ways → Leads
       leads_there w =
           let x = w.1 in
-          let is : IsWay p all steps asked x = subst (IsWay p all steps asked) w.3 (those.each w.0 x w.2) in
+          let is : IsWayOn p all steps asked x = subst (IsWayOn p all steps asked) w.3 (those.each w.0 x w.2) in
           let end = an_end x.count zero start refl (subst (LeadsOn x.count) w.4 is.fewest.leads) in
           there end.0 end.1 end.2 end.3
 

@@ -14,7 +14,7 @@ use Rattle.rbac_model.specs.Policies.{PolicyView}
 use Rattle.rbac_model.proofs.OneList.{one_list, one_of_name}
 use Rattle.rbac_paths.specs.NodeLists.{IsNode, node_text}
 use Rattle.rbac_paths.specs.Nodes.{NodeView, Somebody, ClusterRoleIn, OwnRole, EverythingIn}
-use Rattle.rbac_paths.specs.Paths.{ArePaths, ArePathsOf, ComesFirst, GoesTo, IsBeforeOn, IsFewest, IsPath, LeadsTo, PathView}
+use Rattle.rbac_paths.specs.Paths.{ArePaths, ArePathsOf, IsSooner, GoesTo, IsBeforeOn, IsFewest, IsPath, LeadsTo, PathView}
 use Rattle.rbac_paths.specs.Aims.{ToTakeOver}
 use Rattle.rbac_paths.specs.Reasons.{IsReason}
 use Rattle.rbac_paths.specs.Told.{IsFirstTold}
@@ -84,7 +84,7 @@ module _ {X : Type 0} (count : X → ℕ) (node : X → NodeView) where
   abbrev pub told_name : X → List Text
   told_name x = (count x ∷ []) ∷ node_text (node x) ∷ []
 
-  pub told_less : (x y : X) → ComesFirst (count x) (count y) (node x) (node y) → by_name told_name x y ≡ Less
+  pub told_less : (x y : X) → IsSooner (count x) (count y) (node x) (node y) → by_name told_name x y ≡ Less
   told_less x y (inl lt) = let e : Less ≡ nat_cmp (count x) (count y) = nat_cmp_is (count x) (count y) Less lt in rw (sym e) refl
   told_less x y (inr (same, less)) = let e : Equal ≡ nat_cmp (count x) (count y) = nat_cmp_is (count x) (count y) Equal same in rw (sym e, less) refl
 

@@ -17,7 +17,7 @@ use Rattle.rbac_paths.specs.Nodes.{NodeView}
 use Rattle.rbac_paths.specs.Paths.{GoesTo, IsBeforeOn, IsFewest, LeadsTo}
 use Rattle.rbac_paths.specs.Reasons.{IsReason, ReasonView}
 use Rattle.rbac_paths.specs.Told.{IsFirstTold}
-use Rattle.rbac_paths.specs.WaysTo.{AreWays, AreWaysTo, GoesBack, IsComeTo, IsNext, IsPrincipal, IsWay, NextView, WayView}
+use Rattle.rbac_paths.specs.WaysTo.{AreWays, AreWaysTo, GoesBack, IsComeTo, IsOnward, IsPrincipal, IsWayOn, NextView, WayView}
 use Rattle.rbac_paths.specs.declared.steps.Step.{Step}
 use Rattle.rbac_paths.proofs.AllPowers.{same_first}
 use Rattle.rbac_paths.proofs.OnePaths.{before_to, fewest_to, goes_back, goes_to, leads_back, one_count, told_less, told_name}
@@ -40,7 +40,7 @@ module _ (p : PolicyView) (all others : List Who) (steps : List Step) (asked : A
   come_here zero y (who, c, is) = (who, (same who).1 c, is)
   come_here (suc n) y (x, l, goes) = (x, come_here n x l, from x y goes)
 
-  next_to : (x : WayView) (next : NextView) → IsNext p all steps asked x next → IsNext p others steps asked x next
+  next_to : (x : WayView) (next : NextView) → IsOnward p all steps asked x next → IsOnward p others steps asked x next
   next_to x next is = record {
     others = is.others;
     count = is.count;
@@ -49,8 +49,8 @@ module _ (p : PolicyView) (all others : List Who) (steps : List Step) (asked : A
     reason = is.reason;
   }
 
-  nexts_to : (x : WayView) (o : Option NextView) → MatchOption o ((x.count ≡ 0) × IsReason p x.node (ToBeAllowed asked) x.reason) (IsNext p all steps asked x)
-      → MatchOption o ((x.count ≡ 0) × IsReason p x.node (ToBeAllowed asked) x.reason) (IsNext p others steps asked x)
+  nexts_to : (x : WayView) (o : Option NextView) → MatchOption o ((x.count ≡ 0) × IsReason p x.node (ToBeAllowed asked) x.reason) (IsOnward p all steps asked x)
+      → MatchOption o ((x.count ≡ 0) × IsReason p x.node (ToBeAllowed asked) x.reason) (IsOnward p others steps asked x)
   nexts_to x None is = is
   nexts_to x (Some next) is = next_to x next is
 
@@ -91,7 +91,7 @@ module _ (p : PolicyView) (all : List Who) (steps : List Step) (asked : AccessVi
     listed n y come few =
         let w = are.complete n y come few.leads in
         let x = w.1 in
-        let is : IsWay p all steps asked x = subst (IsWay p all steps asked) w.3 (are.each w.0 x w.2) in
+        let is : IsWayOn p all steps asked x = subst (IsWayOn p all steps asked) w.3 (are.each w.0 x w.2) in
         (x, (w.0, w.2, w.3), w.4, one_count R S x.count n y (subst (IsFewest R S x.count) w.4 is.fewest) few)
 
     -- such nodes that as many steps lead on from and that are printed alike are one
@@ -116,7 +116,7 @@ module _ (p : PolicyView) (all : List Who) (steps : List Step) (asked : AccessVi
       way next reason = record { count = n; node = y; next = next; reason = reason }
 
       abbrev Goes : Option NextView → ReasonView → Type 0
-      Goes next reason = MatchOption next ((n ≡ 0) × IsReason p y (ToBeAllowed asked) reason) (IsNext p all steps asked (way next reason))
+      Goes next reason = MatchOption next ((n ≡ 0) × IsReason p y (ToBeAllowed asked) reason) (IsOnward p all steps asked (way next reason))
 
       one_rest : (next other : Option NextView) (reason why : ReasonView) → Goes next reason → Goes other why → way next reason ≡ way other why
       one_rest None None reason why a b = ap (way None) (one_reason p y (ToBeAllowed asked) reason why a.1 b.1)
@@ -133,19 +133,19 @@ module _ (p : PolicyView) (all : List Who) (steps : List Step) (asked : AccessVi
           let reasons : reason ≡ why = one_reason p y (ToTakeOver next.step next.node) reason why a.reason too in
           λ i. record { count = n; node = y; next = Some (record { node = nodes i; step = step i }); reason = reasons i }
 
-    one_way : (x z : WayView) → IsWay p all steps asked x → IsWay p all steps asked z → x.node ≡ z.node → x ≡ z
+    one_way : (x z : WayView) → IsWayOn p all steps asked x → IsWayOn p all steps asked z → x.node ≡ z.node → x ≡ z
     one_way x z a b e =
         let few : IsFewest R S z.count x.node = subst (IsFewest R S z.count) (sym e) b.fewest in
         let counts : x.count ≡ z.count = one_count R S x.count z.count x.node a.fewest few in
         let here : z ≡ way x.count x.node a.come z.next z.reason = λ i. record { count = sym counts i; node = sym e i; next = z.next; reason = z.reason } in
-        let there : IsWay p all steps asked (way x.count x.node a.come z.next z.reason) = subst (IsWay p all steps asked) here b in
+        let there : IsWayOn p all steps asked (way x.count x.node a.come z.next z.reason) = subst (IsWayOn p all steps asked) here b in
         one_rest x.count x.node a.come x.next z.next x.reason z.reason a.next there.next ∙ sym here
 
   into : (xs ys : List WayView) → AreWays p all steps asked xs → AreWays p all steps asked ys → (x : WayView) → Contains xs x → Contains ys x
   into xs ys are those x w =
-      let is : IsWay p all steps asked x = subst (IsWay p all steps asked) w.2 (are.each w.0 x w.1) in
+      let is : IsWayOn p all steps asked x = subst (IsWayOn p all steps asked) w.2 (are.each w.0 x w.1) in
       let v = those.complete x.count x.node is.come is.fewest.leads in
-      let too : IsWay p all steps asked v.1 = subst (IsWay p all steps asked) v.3 (those.each v.0 v.1 v.2) in
+      let too : IsWayOn p all steps asked v.1 = subst (IsWayOn p all steps asked) v.3 (those.each v.0 v.1 v.2) in
       subst (Contains ys) (one_way xs are v.1 x too is v.4) (v.0, v.2, v.3)
 
   pub one_ways : (xs ys : List WayView) → AreWays p all steps asked xs → AreWays p all steps asked ys → xs ≡ ys

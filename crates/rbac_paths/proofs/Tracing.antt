@@ -13,7 +13,7 @@ use Rattle.rbac_ways.specs.Ways.{AreInOrder, IsMetBefore}
 use Rattle.rbac_ways.specs.declared.graph.Stop.{Stop}
 use Rattle.rbac_paths.specs.NodeLists.{node_text}
 use Rattle.rbac_paths.specs.Nodes.{NodeView}
-use Rattle.rbac_paths.specs.Paths.{ComesFirst, IsNearer, PathView}
+use Rattle.rbac_paths.specs.Paths.{IsSooner, IsNearer, PathView}
 use Rattle.rbac_paths.specs.TakingOver.{TakesOver}
 use Rattle.rbac_paths.specs.Tracing.{AreLinked, AreToldAt, IsAt, IsPathAt, IsUnled}
 use Rattle.rbac_paths.specs.declared.steps.Step.{Step}
@@ -98,7 +98,7 @@ module _ (p : PolicyView) (steps : List Step) (ys : List NodeView) (stops : List
 
     -- of two nodes the one that is met first comes first
     pub first_met : (i j : ℕ) (s t : Stop) (x y : NodeView) → IsMetBefore stops i j → stop_at i ≡ Some s → stop_at j ≡ Some t → slice_get ys i ≡ Some x → slice_get ys j ≡ Some y
-        → ComesFirst s.edges t.edges x y
+        → IsSooner s.edges t.edges x y
     first_met i j s t x y met first second here there =
         let one : s.edges ≡ met.0.edges = ap (λ (v : Stop). v.edges) (same_Some s met.0 (sym first ∙ met.2)) in
         let two : t.edges ≡ met.1.edges = ap (λ (v : Stop). v.edges) (same_Some t met.1 (sym second ∙ met.3)) in
@@ -109,8 +109,8 @@ module _ (p : PolicyView) (steps : List Step) (ys : List NodeView) (stops : List
 
     pub nearer : (i j : ℕ) (x y : PathView) → IsMetBefore stops i j → IsPathAt p steps ys stops i x → IsPathAt p steps ys stops j y → IsNearer x y
     nearer i j x y met a b =
-        subst (λ (n : ℕ). ComesFirst n y.count x.node y.node) (sym a.count)
-        (subst (λ (m : ℕ). ComesFirst a.stop.edges m x.node y.node) (sym b.count) (first_met i j a.stop b.stop x.node y.node met a.at b.at a.node b.node))
+        subst (λ (n : ℕ). IsSooner n y.count x.node y.node) (sym a.count)
+        (subst (λ (m : ℕ). IsSooner a.stop.edges m x.node y.node) (sym b.count) (first_met i j a.stop b.stop x.node y.node met a.at b.at a.node b.node))
 
 -- what is told at places, one after another
 module _ {X : Type 0} (IsAt : ℕ → X → Type 0) (IsPassed : ℕ → Type 0) (ComesBefore : X → X → Type 0) where

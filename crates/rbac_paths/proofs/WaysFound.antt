@@ -16,8 +16,8 @@ use Rattle.rbac_paths.specs.Paths.{GoesTo, IsBeforeOn, IsFewest, IsGraphOf, Lead
 use Rattle.rbac_paths.specs.Reasons.{IsReason}
 use Rattle.rbac_paths.specs.Told.{IsFirstTold}
 use Rattle.rbac_paths.specs.Tracing.{IsAt}
-use Rattle.rbac_paths.specs.TracingWays.{AreEnds, AreLinkedOn, AreWaysAt, IsSomebody, IsToldAt}
-use Rattle.rbac_paths.specs.WaysTo.{AreWays, GoesBack, IsComeTo, IsNext, IsPrincipal, IsWay, NextView, WayView}
+use Rattle.rbac_paths.specs.TracingWays.{AllowAtEnds, AreLinkedOn, AreWaysAt, IsSomebody, IsToldAt}
+use Rattle.rbac_paths.specs.WaysTo.{AreWays, GoesBack, IsComeTo, IsOnward, IsPrincipal, IsWayOn, NextView, WayView}
 use Rattle.rbac_paths.specs.declared.steps.Step.{Step}
 use Rattle.rbac_paths.proofs.GraphWays.{IsGraphBy, among, at_low, before, fewest, leads, one_less, one_or_none, one_place, reached, stop_is, stop_there, within}
 use Rattle.rbac_paths.proofs.PathsFound.{named}
@@ -143,12 +143,12 @@ module _ (p : PolicyView) (ok : IsPolicy p) (all : List Who) (names : List Text)
           let y = at_low ys s.before (EverythingIn None) under in
           (x.0, y.0, x.1, y.1, (graph.edges j s.before x.0 y.0 x.1 y.1).0 ((turned s.before j).0 least.1))
 
-      pub ends_allow : AreEnds p asked ys stops
+      pub ends_allow : AllowAtEnds p asked ys stops
       ends_allow j s at none = (allow j).0 (subst (λ (n : ℕ). IsReachedIn back ends n j) none (stop_is back ends stops found j s at).nearest.leads).0
 
       module _ (starts : List ℕ) (somebody : (j : ℕ) → Contains starts j ↔ IsAt IsSomebody ys j) (come : List (Option Stop)) (met : AreStops g starts come)
           (order : List ℕ) (ordered : AreInOrder stops order) (xs : List WayView) (ways : AreWaysAt p steps asked ys come stops order xs) where
-        is_next : (x : WayView) (j : ℕ) → IsToldAt p steps asked ys come stops j x → (next : NextView) → x.next ≡ Some next → IsNext p all steps asked x next
+        is_next : (x : WayView) (j : ℕ) → IsToldAt p steps asked ys come stops j x → (next : NextView) → x.next ≡ Some next → IsOnward p all steps asked x next
         is_next x j at next some =
             let a = at.1 in
             let s = a.stop in
@@ -175,7 +175,7 @@ module _ (p : PolicyView) (ok : IsPolicy p) (all : List Who) (names : List Text)
             (λ n some. absurd (let both : None ≡ Some n = sym none ∙ some in cc)) a.next in
             (a.count ∙ own.0, own.1)
 
-        is_way : (x : WayView) (j : ℕ) → IsToldAt p steps asked ys come stops j x → IsWay p all steps asked x
+        is_way : (x : WayView) (j : ℕ) → IsToldAt p steps asked ys come stops j x → IsWayOn p all steps asked x
         is_way x j at =
             let a = at.1 in
             let s = a.stop in
@@ -184,7 +184,7 @@ module _ (p : PolicyView) (ok : IsPolicy p) (all : List Who) (names : List Text)
               come = come_to g graph starts somebody come met j x.node a.node at.0;
               fewest = subst (λ (n : ℕ). IsFewest Back Ends n x.node) (sym a.count)
                   (fewest_out s.edges x.node (among ys j x.node a.node) (fewest BackTo IsEnd ys back ends back_graph s.edges j x.node a.node is.nearest));
-              next = matched x.next ((x.count ≡ 0) × IsReason p x.node (ToBeAllowed asked) x.reason) (IsNext p all steps asked x) (none_next x j at) (is_next x j at);
+              next = matched x.next ((x.count ≡ 0) × IsReason p x.node (ToBeAllowed asked) x.reason) (IsOnward p all steps asked x) (none_next x j at) (is_next x j at);
             }
 
         some_way : (n : ℕ) (y : NodeView) → IsComeTo p all steps y → LeadsTo Back Ends n y → Any (λ x. x.node ≡ y) xs

@@ -10,11 +10,11 @@ use Rattle.rbac_paths.specs.Access.{AccessView, AllowsAccess}
 use Rattle.rbac_paths.specs.Aims.{ToBeAllowed, ToTakeOver}
 use Rattle.rbac_paths.specs.NodeLists.{node_text}
 use Rattle.rbac_paths.specs.Nodes.{NodeView}
-use Rattle.rbac_paths.specs.Paths.{ComesFirst}
+use Rattle.rbac_paths.specs.Paths.{IsSooner}
 use Rattle.rbac_paths.specs.Reasons.{IsReason}
 use Rattle.rbac_paths.specs.TakingOver.{TakesOver}
 use Rattle.rbac_paths.specs.Told.{IsFirstTold}
-use Rattle.rbac_paths.specs.TracingWays.{AreEnds, AreLinkedOn, IsOwnWay, IsToldAt, IsUntoldAt, IsWayAt}
+use Rattle.rbac_paths.specs.TracingWays.{AllowAtEnds, AreLinkedOn, IsOwnWay, IsToldAt, IsUntoldAt, IsWayAt}
 use Rattle.rbac_paths.specs.WaysTo.{IsShorter, NextView, WayView}
 use Rattle.rbac_paths.specs.declared.steps.Step.{Step}
 use Rattle.rbac_paths.proofs.Tracing.{first_met, is_here}
@@ -33,11 +33,11 @@ module _ (p : PolicyView) (steps : List Step) (ys : List NodeView) (stops : List
   module _ (asked : AccessView) (come : List (Option Stop)) (up : AllPairs (λ y z. text_cmp (node_text y) (node_text z) ≡ Less) ys) where
     pub shorter : (i j : ℕ) (x y : WayView) → IsMetBefore stops i j → IsToldAt p steps asked ys come stops i x → IsToldAt p steps asked ys come stops j y → IsShorter x y
     shorter i j x y met a b =
-        subst (λ (n : ℕ). ComesFirst n y.count x.node y.node) (sym a.1.count)
-        (subst (λ (m : ℕ). ComesFirst a.1.stop.edges m x.node y.node) (sym b.1.count) (first_met p steps ys stops up i j a.1.stop b.1.stop x.node y.node met a.1.at b.1.at a.1.node b.1.node))
+        subst (λ (n : ℕ). IsSooner n y.count x.node y.node) (sym a.1.count)
+        (subst (λ (m : ℕ). IsSooner a.1.stop.edges m x.node y.node) (sym b.1.count) (first_met p steps ys stops up i j a.1.stop b.1.stop x.node y.node met a.1.at b.1.at a.1.node b.1.node))
 
   -- the way of no steps, told at the place of a node that has no edge to go on
-  module _ (asked : AccessView) (ends : AreEnds p asked ys stops) (j : ℕ) (s : Stop) (at : get_or stops j None ≡ Some s) (end : s.edges ≡ 0) (y : NodeView) (here : slice_get ys j ≡ Some y) where
+  module _ (asked : AccessView) (ends : AllowAtEnds p asked ys stops) (j : ℕ) (s : Stop) (at : get_or stops j None ≡ Some s) (end : s.edges ≡ 0) (y : NodeView) (here : slice_get ys j ≡ Some y) where
     own_at : (x : WayView) → IsOwnWay p asked y x → IsWayAt p steps asked ys stops j x
     own_at x w = record {
       stop = s;

@@ -70,12 +70,12 @@ pub record IsPath (p : PolicyView) (all : List Who) (steps : List Step) (start :
   pub reason : IsReason p x.before (ToTakeOver x.step x.node) x.reason
 
 -- n steps, fewer than m, or as many, and then x is printed before y
-abbrev pub ComesFirst : ℕ → ℕ → NodeView → NodeView → Type 0
-ComesFirst n m x y = (n < m) ⊎ ((n ≡ m) × (text_cmp (node_text x) (node_text y) ≡ Less))
+abbrev pub IsSooner : ℕ → ℕ → NodeView → NodeView → Type 0
+IsSooner n m x y = (n < m) ⊎ ((n ≡ m) × (text_cmp (node_text x) (node_text y) ≡ Less))
 
 -- fewer steps lead to x, or as many, and x is printed before y
 abbrev pub IsNearer : PathView → PathView → Type 0
-IsNearer x y = ComesFirst x.count y.count x.node y.node
+IsNearer x y = IsSooner x.count y.count x.node y.node
 
 -- exactly the nodes that the start comes to, itself aside, in order of how many steps lead there, and
 -- then as printed (own)

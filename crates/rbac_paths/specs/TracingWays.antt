@@ -25,8 +25,8 @@ AreLinkedOn p steps ys stops = (j : ℕ) (s : Stop) → slice_index_or stops j N
     → s.edges ≢ 0 → TakesAt p steps ys j s.before
 
 -- each node with no edge to go on allows what is asked for
-abbrev pub AreEnds : PolicyView → AccessView → List NodeView → List (Option Stop) → Type 0
-AreEnds p asked ys stops = (j : ℕ) (s : Stop) → slice_index_or stops j None ≡ Some s
+abbrev pub AllowAtEnds : PolicyView → AccessView → List NodeView → List (Option Stop) → Type 0
+AllowAtEnds p asked ys stops = (j : ℕ) (s : Stop) → slice_index_or stops j None ≡ Some s
     → s.edges ≡ 0 → IsAt (AllowsAccess p asked) ys j
 
 -- the first step of the way, or why there is none, as the place's stop has it

@@ -5,7 +5,7 @@ use Rattle.rbac_model.specs.Policies.{PolicyView}
 use Rattle.rbac_paths.specs.Access.{AccessView, AllowsAccess}
 use Rattle.rbac_paths.specs.Aims.{ToTakeOver, ToBeAllowed}
 use Rattle.rbac_paths.specs.Nodes.{NodeView, Somebody}
-use Rattle.rbac_paths.specs.Paths.{ComesFirst, GoesTo, IsBeforeOn, IsFewest, LeadsTo}
+use Rattle.rbac_paths.specs.Paths.{IsSooner, GoesTo, IsBeforeOn, IsFewest, LeadsTo}
 use Rattle.rbac_paths.specs.Reasons.{IsReason, ReasonView}
 use Rattle.rbac_paths.specs.Told.{IsFirstTold}
 use Rattle.rbac_paths.specs.declared.steps.Step.{Step}
@@ -43,7 +43,7 @@ pub record WayView : Type 0 where
 
 -- the first step of a way from x with the fewest steps: it goes to the first node as printed that such a
 -- way can go to, by the first of the steps that are told, for the first reason
-pub record IsNext (p : PolicyView) (principals : List Who) (steps : List Step) (asked : AccessView)
+pub record IsOnward (p : PolicyView) (principals : List Who) (steps : List Step) (asked : AccessView)
     (x : WayView) (next : NextView) : Type 0 where
   pub others : ℕ
   pub count : x.count ≡ others + 1
@@ -52,24 +52,24 @@ pub record IsNext (p : PolicyView) (principals : List Who) (steps : List Step) (
   pub reason : IsReason p x.node (ToTakeOver next.step next.node) x.reason
 
 -- a way from a node that is a user or a group, or that steps lead to from one, with the fewest steps
-pub record IsWay (p : PolicyView) (principals : List Who) (steps : List Step) (asked : AccessView)
+pub record IsWayOn (p : PolicyView) (principals : List Who) (steps : List Step) (asked : AccessView)
     (x : WayView) : Type 0 where
   pub come : IsComeTo p principals steps x.node
   pub fewest : IsFewest (GoesBack p principals steps) (AllowsAccess p asked) x.count x.node
   pub next : MatchOption x.next
       ((x.count ≡ 0) × IsReason p x.node (ToBeAllowed asked) x.reason)
-      (IsNext p principals steps asked x)
+      (IsOnward p principals steps asked x)
 
 -- fewer steps lead on from x, or as many, and x is printed before y
 abbrev pub IsShorter : WayView → WayView → Type 0
-IsShorter x y = ComesFirst x.count y.count x.node y.node
+IsShorter x y = IsSooner x.count y.count x.node y.node
 
 -- exactly the users and groups, and the nodes that steps lead to from one of them, from which steps, or
 -- none, lead to a node that allows what is asked for, in order of how many steps do, and then as printed
 -- (own)
 pub record AreWays (p : PolicyView) (all : List Who) (steps : List Step) (asked : AccessView)
     (xs : List WayView) : Type 0 where
-  pub each : All (IsWay p all steps asked) xs
+  pub each : All (IsWayOn p all steps asked) xs
   pub complete : (n : ℕ) (y : NodeView) → IsComeTo p all steps y
       → StepsLeadOn p all steps asked n y → Any (λ x. x.node ≡ y) xs
   pub ordered : AllPairs IsShorter xs

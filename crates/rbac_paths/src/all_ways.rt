@@ -17,7 +17,7 @@ ghost use Rattle.rbac_paths.specs.NodeLists.{node_text};
 ghost use Rattle.rbac_paths.specs.Nodes.{node_of};
 ghost use Rattle.rbac_paths.specs.Told.{HasItsRole};
 ghost use Rattle.rbac_paths.specs.Tracing.{IsAt};
-ghost use Rattle.rbac_paths.specs.TracingWays.{AreEnds, AreLinkedOn, AreWaysAt, IsOwnWay};
+ghost use Rattle.rbac_paths.specs.TracingWays.{AllowAtEnds, AreLinkedOn, AreWaysAt, IsOwnWay};
 ghost use Rattle.rbac_paths.specs.TracingWays.{IsSomebody, IsWayAt};
 ghost use Rattle.rbac_paths.specs.WaysTo.{AreWaysTo};
 
@@ -224,7 +224,7 @@ fn ways_by<'p>(
         (map node_of nodes.now) }
     requires linked { AreLinkedOn policy.now steps.now (map node_of nodes.now)
         reached.now.stops.items }
-    requires ends { AreEnds policy.now (access_of access) (map node_of nodes.now) reached.now.stops.items }
+    requires ends { AllowAtEnds policy.now (access_of access) (map node_of nodes.now) reached.now.stops.items }
     requires order { AreInOrder reached.now.stops.items reached.now.order.items }
     ensures { IfOk result (λ found. AreWaysAt policy.now steps.now (access_of access.entry)
         (map node_of nodes.now) come.now reached.now.stops.items reached.now.order.items
@@ -275,7 +275,7 @@ fn way_at<'p>(
     requires numbers { AreNumbers policy.now steps.now (map node_of nodes.now) (length nodes.now)
         numbers.now }
     requires linked { AreLinkedOn policy.now steps.now (map node_of nodes.now) stops.now }
-    requires ends { AreEnds policy.now (access_of access) (map node_of nodes.now) stops.now }
+    requires ends { AllowAtEnds policy.now (access_of access) (map node_of nodes.now) stops.now }
     ensures { IfOk result (λ way. MatchOption way (slice_index_or stops.now place None ≡ None)
         (IsWayAt policy.now steps.now (access_of access.entry) (map node_of nodes.now) stops.now place)) }
 {
