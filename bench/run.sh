@@ -90,13 +90,15 @@ measure_universe() {
         "$(least "$audit" universe "$file")" "$(($(python3 least.py --memory "$audit" universe "$file") / 1024))"
 }
 
-# One line for whom somebody comes to: how many lines, the time beside can-i, the ratio of both, and the memory.
+# One line for whom somebody comes to, or who comes to a request: how many lines, the time beside can-i, the ratio of both, and the
+# memory. The command and its words follow the file.
 measure_paths() {
-    local name=$1 file=$2 who=$3 answer paths
+    local name=$1 file=$2 answer paths
+    shift 2
     answer=$(ask "$file")
-    paths=$(least "$audit" paths "$who" "$file")
-    printf '%-44s %9d lines  can-i %5d ms  paths %5d ms %4d MB  ratio %s\n' "$name" "$("$audit" paths "$who" "$file" | wc -l)" "$answer" "$paths" \
-        "$(($(python3 least.py --memory "$audit" paths "$who" "$file") / 1024))" "$(python3 -c "print('%.2f' % ($paths / max(1, $answer)))")"
+    paths=$(least "$audit" "$@" "$file")
+    printf '%-44s %9d lines  can-i %5d ms  %s %5d ms %4d MB  ratio %s\n' "$name" "$("$audit" "$@" "$file" | wc -l)" "$answer" "$1" "$paths" \
+        "$(($(python3 least.py --memory "$audit" "$@" "$file") / 1024))" "$(python3 -c "print('%.2f' % ($paths / max(1, $answer)))")"
 }
 
 # One line for each shape of real clusters: its rows, the time of `matrix` over it, and the ratio to can-i over an export; and the rows
@@ -149,10 +151,12 @@ python3 generate_export.py 10000 40000 400 7 "$room/export.json" > /dev/null
 measure_reading "reading, 10000 roles, 40000 bindings" "$room/export.json"
 measure_universe "universe, 10000 roles, 40000 bindings" "$room/export.json"
 who=$("$audit" powers "$room/export.json" | awk -F '\t' '$1 == "run" && $2 ~ /^u:/ && $3 != "*" && !who {who = $2} END {print who}')
-measure_paths "paths, 10000 roles, 40000 bindings" "$room/export.json" "$who"
+measure_paths "paths, 10000 roles, 40000 bindings" "$room/export.json" paths "$who"
+measure_paths "who-can --indirect, 10000 roles" "$room/export.json" who-can --indirect -A '*' '*.*'
 for size in "50000 1000 100" "100000 1000 300"; do
     python3 generate_runners.py $size "$room/runners.json"
-    measure_paths "paths, accounts, namespaces, everywhere $size" "$room/runners.json" u:system:serviceaccount:ns00000:account-001000
+    measure_paths "paths, accounts, namespaces, everywhere $size" "$room/runners.json" paths u:system:serviceaccount:ns00000:account-001000
+    measure_paths "who-can --indirect, the same $size" "$room/runners.json" who-can --indirect -A '*' '*.*'
 done
 measure_diff "diff, equal exports" "$room/export.json" --after "$room/export.json"
 python3 change_export.py bindings 100 "$room/export.json" "$room/changed.json"
