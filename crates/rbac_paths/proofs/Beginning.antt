@@ -1,5 +1,5 @@
 -- Each path begins with a power of who is asked about.
-use Rattle.std.proofs.Common.{◌≡◌, ◌+◌, ℕ, zero, suc, List, [], ◌∷◌, Any, Contains, arith, refl, subst}
+use Rattle.std.proofs.Common.{◌≡◌, ℕ, zero, suc, List, [], ◌∷◌, Any, arith, refl, subst}
 use Rattle.rbac_terms.specs.Principals.{Who}
 use Rattle.rbac_model.specs.Holders.{IsKeyFor}
 use Rattle.rbac_model.specs.Policies.{PolicyView}
