@@ -5,11 +5,13 @@ usage: python3 tools/wrong_bodies.py [--changed COMMIT] [CRATE..]    (no crate: 
 With --changed only the edits that a change since that commit can touch are tried: the edit itself, a file that it edits, or a
 definition of its crate has changed. How many are left is said.
 
-`rt ci` tries them as it tries those of must-fail/, whose place they take in a copy of the repository. The crates and those
-below are proved first. An edit that can't be applied or read has failed. The last line is `N passed, M failed`.
+Edits of different functions are tried together, by `rt check` of a copy of their crate (together.py). Those that aren't refused
+there `rt ci` tries one by one, as it tries those of must-fail/, whose place they take in another copy. The crates and those below
+are proved first. An edit that can't be applied or read has failed. The last line is `N passed, M failed`.
 """
 
 import argparse
+import concurrent.futures
 import contextlib
 import os
 import re
@@ -18,6 +20,7 @@ import sys
 
 sys.dont_write_bytecode = True
 from copies import TOP, Copy, listed  # noqa: E402
+from together import Crate, Edit  # noqa: E402
 
 FOLDER = 'wrong-bodies'
 REFUSED = re.compile(r'rt: must-fail (\S+/\S+\.edit): refused, as it must be')
@@ -67,29 +70,70 @@ def words():
     return parser.parse_args()
 
 
-def main():
-    given = words()
-    edits = [edit for crate in chosen(given.crates) for edit in edits_of(crate)]
-    left_out = set()
-    if given.changed is not None:
-        changed = changed_since(given.changed)
-        left_out = {edit for edit in edits if not is_touched(edit, changed)}
-        edits = [edit for edit in edits if edit not in left_out]
-        print('%d are tried; %d are left out: no change since %s touches them'
-              % (len(edits), len(left_out), given.changed), flush=True)
-    if not edits:
-        sys.exit('wrong-bodies: there are none')
+def at_once():
+    """How many checks run side by side: one for each processor, where there is memory for that many."""
+    with open('/proc/meminfo', encoding='ascii') as file:
+        free = int(re.search(r'MemAvailable: *(\d+)', file.read())[1])
+    return max(1, min(os.cpu_count(), free // 4000000))
+
+
+def refused_together(edits):
+    """Those of the edits that are refused together with others."""
+    of_crate, refused = {}, set()
+    for edit in edits:
+        of_crate.setdefault(edit.split('/')[0], []).append(Edit(os.path.join(TOP, 'crates', edit.replace('/', '/%s/' % FOLDER))))
+
+    def tell(edit):
+        refused.add(edit.name)
+        print('%s: refused, as it must be' % edit.name, flush=True)
+
+    with contextlib.ExitStack() as copies, concurrent.futures.ThreadPoolExecutor(at_once()) as workers:
+        crates = {name: Crate(copies.enter_context(Copy([name])).path('crates', name), len(of_crate) == 1) for name in of_crate}
+        try:
+            ends = [workers.submit(crate.try_together, of_crate[name], tell) for name, crate in crates.items()]
+            for end in concurrent.futures.as_completed(ends):
+                end.result()
+        except BaseException:
+            for crate in crates.values():
+                crate.end()
+            raise
+    return refused
+
+
+def refused_alone(edits):
+    """Those of the edits that are refused, each by itself."""
     refused = set()
 
     def tell(line):
         refused.update(REFUSED.findall(line))
         print(line.replace('must-fail ', ''), end='', flush=True)
 
-    with Copy(sorted({edit.split('/')[0] for edit in edits}), FOLDER) as copy:
-        for crate, name in (edit.split('/') for edit in left_out):
-            with contextlib.suppress(FileNotFoundError):
-                os.remove(copy.path('crates', crate, 'must-fail', name))
+    crates = sorted({edit.split('/')[0] for edit in edits})
+    with Copy(crates, FOLDER) as copy:
+        for crate in crates:
+            folder = copy.path('crates', crate, 'must-fail')
+            for name in os.listdir(folder):
+                if '%s/%s' % (crate, name) not in edits:
+                    os.remove(os.path.join(folder, name))
         copy.ci(tell)
+    return refused
+
+
+def main():
+    given = words()
+    edits = [edit for crate in chosen(given.crates) for edit in edits_of(crate)]
+    if given.changed is not None:
+        every, changed = edits, changed_since(given.changed)
+        edits = [edit for edit in every if is_touched(edit, changed)]
+        print('%d are tried; %d are left out: no change since %s touches them'
+              % (len(edits), len(every) - len(edits), given.changed), flush=True)
+    if not edits:
+        sys.exit('wrong-bodies: there are none')
+    refused = refused_together(edits)
+    left = [edit for edit in edits if edit not in refused]
+    if left:
+        print('%d were refused together; %d are tried one by one' % (len(refused), len(left)), flush=True)
+        refused |= refused_alone(left)
     missed = [edit for edit in edits if edit not in refused]
     for edit in missed:
         print('FAIL %s: not refused, or not tried' % edit)
