@@ -26,6 +26,7 @@ pub mod PlaceLemmas
 pub mod Product
 pub mod RepeatedLemmas
 pub mod RowLemmas
+pub mod RunLemmas
 pub mod SearchLemmas
 pub mod SeatLemmas
 pub mod SeekLemmas

@@ -35,8 +35,8 @@ run_first p l from start end run = run.none_before
 
 module _ (p : PolicyView) (l : LineView) (runs : Runs) (old : Walk) (within : IsWithin p l runs old) where
   -- a walk goes on in its run
-  pub next_in_run : (w : Walk) → w ≡ old → old.next < old.end → IsNextBound p l old (record { next = w.next + 1; end = w.end; later = w.later }) w.next
-  next_in_run w e lt = subst (λ (v : Walk). IsNextBound p l old (record { next = v.next + 1; end = v.end; later = v.later }) v.next) (sym e) (
+  pub next_in_run : (w : Walk) → w ≡ old → old.next < old.end → IsNextBound p l old (record { next = w.next + 1; end = w.end; later = w.later; steps = w.steps }) w.next
+  next_in_run w e lt = subst (λ (v : Walk). IsNextBound p l old (record { next = v.next + 1; end = v.end; later = v.later; steps = v.steps }) v.next) (sym e) (
     record {
       on = omega arith;
       passed = refl;
@@ -45,17 +45,17 @@ module _ (p : PolicyView) (l : LineView) (runs : Runs) (old : Walk) (within : Is
     within.bound old.next (omega arith) lt,
   )
 
-  pub within_run : (w : Walk) → w ≡ old → old.next < old.end → IsWithin p l runs (record { next = w.next + 1; end = w.end; later = w.later })
-  within_run w e lt = subst (λ (v : Walk). IsWithin p l runs (record { next = v.next + 1; end = v.end; later = v.later })) (sym e) (record {
+  pub within_run : (w : Walk) → w ≡ old → old.next < old.end → IsWithin p l runs (record { next = w.next + 1; end = w.end; later = w.later; steps = w.steps })
+  within_run w e lt = subst (λ (v : Walk). IsWithin p l runs (record { next = v.next + 1; end = v.end; later = v.later; steps = v.steps })) (sym e) (record {
     order = omega arith;
     bound = λ number low high. within.bound number (omega arith) high;
     later = within.later;
   })
 
-  module _ (w mid : Walk) (run : Run) (e : w ≡ record { next = run.start; end = run.end; later = mid.later }) (over : old.end ≤ old.next) (is : IsNextRunOn p l runs old mid run) where
+  module _ (w mid : Walk) (run : Run) (e : w ≡ record { next = run.start; end = run.end; later = mid.later; steps = mid.steps }) (over : old.end ≤ old.next) (is : IsNextRunOn p l runs old mid run) where
     -- a walk comes to a new run
-    pub next_in_new : IsNextBound p l old (record { next = w.next + 1; end = w.end; later = w.later }) w.next
-    next_in_new = subst (λ (v : Walk). IsNextBound p l old (record { next = v.next + 1; end = v.end; later = v.later }) v.next) (sym e) (
+    pub next_in_new : IsNextBound p l old (record { next = w.next + 1; end = w.end; later = w.later; steps = w.steps }) w.next
+    next_in_new = subst (λ (v : Walk). IsNextBound p l old (record { next = v.next + 1; end = v.end; later = v.later; steps = v.steps }) v.next) (sym e) (
       record {
         on = omega (arith, within.order, is.next.after);
         passed = refl;
@@ -64,8 +64,8 @@ module _ (p : PolicyView) (l : LineView) (runs : Runs) (old : Walk) (within : Is
       run_bound p l old.end run.start run.end is.next run.start (omega arith) is.next.some,
     )
 
-    pub within_new : IsWithin p l runs (record { next = w.next + 1; end = w.end; later = w.later })
-    within_new = subst (λ (v : Walk). IsWithin p l runs (record { next = v.next + 1; end = v.end; later = v.later })) (sym e) (record {
+    pub within_new : IsWithin p l runs (record { next = w.next + 1; end = w.end; later = w.later; steps = w.steps })
+    within_new = subst (λ (v : Walk). IsWithin p l runs (record { next = v.next + 1; end = v.end; later = v.later; steps = v.steps })) (sym e) (record {
       order = omega (arith, is.next.some);
       bound = λ number low high. run_bound p l old.end run.start run.end is.next number (omega arith) high;
       later = is.later;

@@ -40,7 +40,7 @@ joined b number end place = record {
 -- the block at that place; past the end it is `no_block`
 abbrev pub no_block : Block
 no_block = record {
-  walk = record { next = 0; end = 0; later = 0 };
+  walk = record { next = 0; end = 0; later = 0; steps = 0 };
   end = 0;
   place = 0;
   number = 0;

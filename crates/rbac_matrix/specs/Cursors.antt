@@ -1,5 +1,5 @@
 -- The cursors of a line: the grants that may allow something on it.
-use Rattle.std.specs.Prelude.{◌≡◌, ℕ, ◌+◌, ◌<◌, ◌≤◌, ◌-◌, ◌⊎◌, IsTrue, List, ◌∷◌, Some}
+use Rattle.std.specs.Prelude.{◌≡◌, ℕ, ◌+◌, ◌<◌, ◌≤◌, ◌-◌, ◌⊎◌, IsTrue, List, [], ◌∷◌, Some}
 use Rattle.std.specs.Prelude.{slice_get, drop, length}
 use Rattle.rbac_model.specs.Policies.{PolicyView, GrantView}
 use Rattle.rbac_model.specs.Universes.{UniverseView, IsCursor}
@@ -32,6 +32,11 @@ AreRunsOn p l runs from later = AreRunsFrom p l.who l.namespace runs.are_all fro
 -- these are the first runs of the line
 abbrev pub AreRuns : PolicyView → LineView → Runs → Type 0
 AreRuns p l runs = AreRunsOn p l runs 0 runs.kept.items
+
+-- the number after those of the last run, or that number if there are no runs
+abbrev pub end_after : ℕ → List Run → ℕ
+end_after number [] = number
+end_after number (run ∷ runs) = end_after run.end runs
 
 -- the verbs that the set lacks are on no grant that may be live for who asks in that namespace
 abbrev pub AreVerbs : PolicyView → UniverseView → Who → Text → List ℕ → Type 0
@@ -68,7 +73,7 @@ pub record AreKnownAt (p : PolicyView) (u : UniverseView) (at : Place) (runs : R
 
 -- the walk back at a number of the run that it is in
 abbrev pub back_at : Walk → ℕ → Walk
-back_at w number = record { next = number; end = w.end; later = w.later }
+back_at w number = record { next = number; end = w.end; later = w.later; steps = w.steps }
 
 -- the walk will still come to the cursor with that number
 abbrev pub IsAhead : PolicyView → LineView → Walk → ℕ → Type 0

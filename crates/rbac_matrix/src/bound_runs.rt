@@ -3,10 +3,12 @@
 ghost use Rattle.std.specs.Prelude.{◌≡◌, ◌<◌, ◌≤◌, ◌↔◌, [], ℕ, IsTrue, Some, length, slice_get};
 ghost use Rattle.std.specs.Prelude.{Any, false};
 ghost use Rattle.rbac_matrix.specs.Shown.{line_of};
-ghost use Rattle.rbac_subjects.specs.Bound.{HasRoleBindings};
+ghost use Rattle.rbac_subjects.specs.Bound.{AreRunsFrom, HasRoleBindings};
 ghost use Rattle.rbac_model.specs.Policies.{GrantView, IsPolicy, PolicyView};
 ghost use Rattle.rbac_model.specs.Universes.{UniverseView};
 ghost use Rattle.rbac_matrix.specs.Cursors.{AreRuns, AreRunsOf, AreVerbs, ServeBare, KeepGrantVerbs};
+ghost use Rattle.rbac_matrix.specs.Cursors.{end_after};
+ghost use Rattle.rbac_matrix.specs.Lines.{LineView};
 ghost use Rattle.rbac_matrix.specs.GrantVerbs.{AreVerbsOfGrant, AreVerbsOfGrants};
 ghost use Rattle.rbac_matrix.specs.VerbPlaces.{AddsVerbs, LacksPlace};
 
@@ -16,9 +18,12 @@ use crate::verb_places::VerbPlaces;
 use crate::walk::{next_bound, whole_walk};
 use arrayvec::ArrayVec;
 use rbac_index::Index;
-use rbac_subjects::{MOST_RUNS, Run};
+use rbac_subjects::{FirstRuns, Run};
 use rbac_terms::Word;
 use rbac_universe::Universe;
+
+// The most runs of a line that are kept.
+const MOST_RUNS: usize = 1_024;
 
 // The most grants of a line of which it is kept which verbs each has.
 const MOST_GRANTS: usize = 128;
@@ -26,7 +31,7 @@ const MOST_GRANTS: usize = 128;
 /// The first runs of the grants whose bindings name who asks and may be live on a line.
 #[derive(Drop)]
 pub(crate) struct Runs {
-    // At most `MOST_RUNS`; a line's walks look up the others.
+    // At most `MOST_RUNS`; a line's walks look up the others, or step over grants to come to them.
     kept: ArrayVec<Run, MOST_RUNS>,
     // Whether there are no other runs.
     are_all: bool,
@@ -76,7 +81,8 @@ impl Runs {
         self.fill_verbs(index, universe, line);
     }
 
-    // Makes these the first runs of the line; its verbs aren't filled in yet.
+    // Makes these the first runs of the line; its verbs aren't filled in yet. The first of them are
+    // found together; where there are more, each is looked up.
     fn fill_runs(&mut self, index: &Index<'_>, line: Line<'_>)
         ensures runs { AreRuns index.now (line_of line.entry) self.new }
         ensures bare { IsTrue self.new.is_bare
@@ -86,9 +92,57 @@ impl Runs {
     {
         let subjects = index.subjects();
         let found = subjects.first_runs(line.principal, line.namespace);
-        self.kept = found.runs;
-        self.are_all = found.are_all;
+        self.keep_first(&found);
+        self.keep_others(index, line);
         self.is_bare = !subjects.has_role_bindings(line.namespace);
+    }
+
+    // Keeps these runs in place of all others.
+    fn keep_first(&mut self, found: &FirstRuns)
+        ensures runs { (p : PolicyView) (l : LineView)
+            → AreRunsFrom p l.who l.namespace found.now.are_all 0 found.now.runs.items
+            → AreRuns p l self.new }
+        ensures same { self.new
+            ≡ record self.old { kept = self.new.kept; are_all = self.new.are_all } }
+    {
+        self.kept.clear();
+        match self.kept.try_extend_from_slice(found.runs.as_slice()) {
+            Ok(()) => self.are_all = found.are_all,
+            // There is room. If there weren't, none would be kept.
+            Err(_) => self.are_all = false,
+        }
+    }
+
+    // Keeps the runs after those that are kept too, as many as there is room for.
+    fn keep_others(&mut self, index: &Index<'_>, line: Line<'_>)
+        requires { AreRuns index.now (line_of line) self.old }
+        ensures runs { AreRuns index.now (line_of line.entry) self.new }
+        ensures same { self.new
+            ≡ record self.old { kept = self.new.kept; are_all = self.new.are_all } }
+    {
+        if self.are_all {
+            return;
+        }
+        let subjects = index.subjects();
+        let mut from = self.kept_end();
+        while !self.kept.is_full() {
+            let Some((start, end)) = subjects.next_run(line.principal, line.namespace, from) else {
+                self.are_all = true;
+                return;
+            };
+            self.kept.push(Run { start, end });
+            from = end;
+        }
+    }
+
+    // The number after those of the last run that is kept; 0 if there is none.
+    fn kept_end(&self) -> u32
+        ensures { result ≡ end_after 0 self.now.kept.items }
+    {
+        match self.kept.as_slice().last() {
+            Some(last) => last.end,
+            None => 0,
+        }
     }
 
     // Fills in which verbs these grants have: all of them, and each of the first of them. Past those

@@ -14,7 +14,17 @@ use crate::grant_verbs::has_verb;
 use crate::line::Line;
 use rbac_index::Index;
 use rbac_subjects::Run;
+use rbac_terms::Principal;
 use rbac_universe::Universe;
+
+// About how many steps of a walk take as long as to look up a key of a principal.
+const STEPS_FOR_A_KEY: usize = 64;
+
+// About how many keys a principal has besides those of the groups given.
+const IMPLIED_KEYS: usize = 2;
+
+// How many times as many steps are taken where runs are close.
+const CLOSE: usize = 16;
 
 /// A walk along the grants of a line, run by run.
 #[derive(Clone, Copy, Default)]
@@ -24,6 +34,9 @@ pub(crate) struct Walk {
     end: u32,
     // The place of the run after that one, among those that are kept.
     later: usize,
+    // Past the runs that are kept: how many grants may still be stepped over before the next run is
+    // looked up.
+    steps: usize,
 }
 
 impl Walk {
@@ -35,6 +48,7 @@ impl Walk {
             next: no,
             end: self.end,
             later: self.later,
+            steps: self.steps,
         }
     }
 }
@@ -51,6 +65,7 @@ pub(crate) fn whole_walk() -> Walk
         next: 0,
         end: 0,
         later: 0,
+        steps: 0,
     }
 }
 
@@ -121,7 +136,8 @@ pub(crate) fn next_bound(
 }
 
 // The next grant below `end` to look at. Skipped grants can't be cursors. Past the runs that are
-// kept, no grant is skipped: to look at a seat takes less than to look up a run.
+// kept, the grants after a run are looked at one by one, as long as that takes less than to look up
+// the next run.
 #[inline(always)]
 pub(crate) fn next_below(
     index: &Index<'_>,
@@ -144,10 +160,11 @@ pub(crate) fn next_below(
     if end <= walk.next {
         return None;
     }
-    if walk.end <= walk.next && runs.are_unknown_at(walk.later) {
+    if walk.end <= walk.next && 0 < walk.steps && runs.are_unknown_at(walk.later) {
         let no = walk.next;
         walk.next = no + 1;
         walk.end = no + 1;
+        walk.steps -= 1;
         return Some(no);
     }
     let no = next_bound(index, line, runs, walk)?;
@@ -173,5 +190,19 @@ fn next_run(index: &Index<'_>, line: Line<'_>, runs: &Runs, walk: &mut Walk) -> 
     }
     let subjects = index.subjects();
     let (start, end) = subjects.next_run(line.principal, line.namespace, walk.end)?;
+    walk.steps = steps_after(line.principal, start.saturating_sub(walk.end));
     Some(Run { start, end })
+}
+
+// How many grants to step over before the run after one is looked up that came so many grants after
+// the run before it. Each key of the principal is looked up. Where runs are close, stepping mostly
+// comes to the next one first.
+fn steps_after(principal: &Principal, gap: u32) -> usize {
+    let keys = principal.given().len().saturating_add(IMPLIED_KEYS);
+    let steps = keys.saturating_mul(STEPS_FOR_A_KEY);
+    if (gap as usize) < steps {
+        steps.saturating_mul(CLOSE)
+    } else {
+        steps
+    }
 }
