@@ -126,7 +126,7 @@ measure_wide() {
     case $shape in
         lint-*) asked=("$audit" lint "$file.json") ;;
         all-select) asked=("$audit" can-i --as nobody@example.com -A get pods "$file.json") ;;
-        words | urls) asked=("$audit" matrix "$file.json") ;;
+        words | urls | spread) asked=("$audit" matrix "$file.json") ;;
     esac
     python3 generate_wide.py "$shape" "$count" "$room"
     took=$(python3 least.py 3 "${asked[@]}")
@@ -171,7 +171,7 @@ measure_whole "no repeats, 2000 roles, 8000 bindings" "$room/cluster.json" --onc
 for shape in "product 1000" "product 2000" "verb 1000" "verb 2000" "gained 800" "gained 1600" "names 20000" "names 40000" \
     "name-rules 500" "name-rules 1000" "subjects 25" "subjects 50" "gathered 150" "gathered 300" "lint-names 32000" \
     "lint-names 64000" "lint-roles 200" "lint-roles 400" "all-select 20000" "all-select 40000" "words 20000" "words 40000" "urls 20000" \
-    "urls 40000"; do
+    "urls 40000" "spread 250" "spread 500" "spread 1000" "spread 2000"; do
     measure_wide "$answer" $shape
 done
 python3 change_export.py names "$room/export.json" "$room/changed.json"
