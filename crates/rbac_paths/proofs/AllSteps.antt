@@ -6,7 +6,7 @@ use Rattle.rbac_model.specs.Policies.{PolicyView}
 use Rattle.rbac_paths.specs.Finding.{AreWithGrants}
 use Rattle.rbac_paths.specs.Powers.{ArePowersIn, ArePowersOf, GivesStep, IsPower, PowerView}
 use Rattle.rbac_paths.specs.declared.steps.Step.{Step}
-use Rattle.rbac_paths.proofs.Choosing.{among}
+use Rattle.rbac_paths.proofs.Choosing.{among, only}
 
 -- the powers of these steps, each grant's among them
 pub record ArePowersTo (p : PolicyView) (steps : List Step) (xs : List PowerView) : Type 0 where
@@ -53,3 +53,11 @@ each_power p (s ∷ steps) xs (own, rest, of, others, is) x c = elim (Contains-a
   | inl mine ↦ ((of.exact x).0 mine).1
   | inr later ↦ each_power p steps rest others x later
 ]
+
+-- and each power of one of the steps is among them
+pub each_listed : (p : PolicyView) (steps : List Step) (xs : List PowerView) → ArePowersIn p steps xs → (x : PowerView) → Contains steps x.step → IsPower p x → Contains xs x
+each_listed p [] xs none x c is = absurd (omega (arith, c.1))
+each_listed p (s ∷ steps) xs (own, rest, of, others, e) x c is = subst (λ (ys : List PowerView). Contains ys x) (sym e) (elim (Contains-append_cases (s ∷ []) steps x.step c) [
+  | inl mine ↦ Contains-append_left own rest x ((of.exact x).1 (only s x.step mine, is))
+  | inr later ↦ Contains-append_right own rest x (each_listed p steps rest others x later is)
+])

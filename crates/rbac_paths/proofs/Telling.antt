@@ -1,5 +1,5 @@
 -- The powers tell who can take which step.
-use Rattle.std.proofs.Common.{◌≡◌, ◌∙◌, List, Option, Some, None, Any, Contains, slice_get, refl, sym, ap, subst, arith}
+use Rattle.std.proofs.Common.{◌≡◌, ◌∙◌, ℕ, List, Option, Some, None, Any, Contains, slice_get, refl, sym, ap, subst, arith}
 use Rattle.std.proofs.lemmas.Option.{slice_get_within, slice_get-get_or, get_or_from_slice_get}
 use Rattle.rbac_terms.specs.Text.{Text}
 use Rattle.rbac_terms.specs.Targets.{Resource}
@@ -18,7 +18,7 @@ use Rattle.rbac_paths.specs.declared.table.Counts.{Counts}
 use Rattle.rbac_paths.specs.declared.table.Counts.TheVariants as counted
 use Rattle.rbac_paths.proofs.AllSteps.{ArePowersTo, each_power}
 
-in_steps : (step : Step) → Contains steps step
+pub in_steps : (step : Step) → Contains steps step
 in_steps Impersonate = (0, omega arith, refl)
 in_steps Token = (1, omega arith, refl)
 in_steps Run = (2, omega arith, refl)
@@ -43,23 +43,46 @@ live_there (Some own) r namespace text name holds counts =
     let asked : asked_in r.counts namespace ≡ namespace = ap (λ (p : Counts). asked_in p namespace) counts.0 in
     (λ e. counts.1 (holds ∙ sym asked ∙ e), holds ∙ sym asked)
 
+-- a grant gives somebody the step by one of their keys, and what holds where its binding is holds there
+pub record GivesSomebody (p : PolicyView) (who : Who) (step : Step) (namespace : Text) : Type 0 where
+  pub place : ℕ
+  pub grant : GrantView
+  pub key : Text
+  pub here : slice_get p.grants place ≡ Some grant
+  pub gives : GivesStep step grant
+  pub has : HasKey grant.binding key
+  pub holds : AlsoHoldsIn grant.binding.namespace namespace
+  pub theirs : IsKeyFor who key
+
+-- what somebody can take, some grant gives them
+pub given : (p : PolicyView) → IsPolicy p → (who : Who) (step : Step) (namespace : Text) → CanTake p who step namespace → GivesSomebody p who step namespace
+given p ok who step namespace c =
+    let row = c.row in
+    let asked = asked_in row.counts namespace in
+    let t = Resource row.group c.text c.name in
+    let by = some_grant p.held p.grants who asked c.verb t ok.0 ok.1 c.allowed in
+    let g = by.1 in
+    let there = counts_there g.binding.namespace row row.counts namespace c.verb c.text c.name refl by.4.0 in
+    let named = by.4.1 in
+    let key = naming_key named.1 g.binding.namespace who named.4 in
+    let allows : AllowsRow row g.rule.rule = record { verb = c.verb; text = c.text; name = c.name; of_verbs = c.of_verbs; of_resources = c.of_resources; named = c.named; allows = by.4.2 } in
+    record {
+      place = by.0;
+      grant = g;
+      key = key.0;
+      here = slice_get-get_or p.grants by.0 g by.2 ∙ ap (λ (v : GrantView). Some v) by.3;
+      gives = any_from (λ r. (r.step ≡ step) × AllowsIn g.binding.namespace g.rule.rule r) table row c.of_table (c.of_step, (there.0, allows));
+      has = (named.0, named.1, named.2, named.3, key.1);
+      holds = there.1;
+      theirs = key.2;
+    }
+
 module _ (p : PolicyView) (ok : IsPolicy p) (xs : List PowerView) (to : ArePowersTo p steps xs) (who : Who) (step : Step) (namespace : Text) where
   pub told : CanTake p who step namespace → Any (λ x. (x.step ≡ step) × AlsoHoldsIn x.grant.binding.namespace namespace × IsKeyFor who x.who) xs
   told c =
-      let row = c.row in
-      let asked = asked_in row.counts namespace in
-      let t = Resource row.group c.text c.name in
-      let by = some_grant p.held p.grants who asked c.verb t ok.0 ok.1 c.allowed in
-      let g = by.1 in
-      let here : slice_get p.grants by.0 ≡ Some g = slice_get-get_or p.grants by.0 g by.2 ∙ ap (λ (v : GrantView). Some v) by.3 in
-      let there = counts_there g.binding.namespace row row.counts namespace c.verb c.text c.name refl by.4.0 in
-      let named = by.4.1 in
-      let key = naming_key named.1 g.binding.namespace who named.4 in
-      let has : HasKey g.binding key.0 = (named.0, named.1, named.2, named.3, key.1) in
-      let allows : AllowsRow row g.rule.rule = record { verb = c.verb; text = c.text; name = c.name; of_verbs = c.of_verbs; of_resources = c.of_resources; named = c.named; allows = by.4.2 } in
-      let gives : GivesStep step g = any_from (λ r. (r.step ≡ step) × AllowsIn g.binding.namespace g.rule.rule r) table row c.of_table (c.of_step, (there.0, allows)) in
-      let x = to.grants step (in_steps step) by.0 g key.0 here gives has in
-      (x.0, x.1, x.2, x.3, (x.4.0, subst (λ (o : Option Text). AlsoHoldsIn o namespace) (sym x.4.2) there.1, subst (λ (k : Text). IsKeyFor who k) (sym x.4.1) key.2))
+      let by = given p ok who step namespace c in
+      let x = to.grants step (in_steps step) by.place by.grant by.key by.here by.gives by.has in
+      (x.0, x.1, x.2, x.3, (x.4.0, subst (λ (o : Option Text). AlsoHoldsIn o namespace) (sym x.4.2) by.holds, subst (λ (k : Text). IsKeyFor who k) (sym x.4.1) by.theirs))
 
   pub taken : Any (λ x. (x.step ≡ step) × AlsoHoldsIn x.grant.binding.namespace namespace × IsKeyFor who x.who) xs → CanTake p who step namespace
   taken a =

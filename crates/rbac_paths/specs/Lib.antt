@@ -1,5 +1,6 @@
 pub mod Access
 pub mod AddingNodes
+pub mod Agreement
 pub mod Aims
 pub mod Asked
 pub mod BoundNames
