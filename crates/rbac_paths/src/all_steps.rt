@@ -8,7 +8,7 @@ ghost use Rattle.rbac_paths.specs.Telling.{TellAll};
 
 use crate::finding::found_of;
 use crate::power::{Power, Powers};
-use crate::steps::{STEPS, Step};
+use crate::steps::Step;
 use rbac_model::Policy;
 use std::alloc::{AllocError, Global};
 
@@ -21,7 +21,7 @@ pub fn powers<'p>(alloc: Global, policy: &'p Policy) -> Result<Powers<'p>, Alloc
     ensures tell { IfOk result (λ xs. TellAll policy.now xs) }
 {
     let mut all = Vec::new(alloc);
-    for step in &STEPS {
+    for step in &Step::ALL {
         add_step(alloc, policy, *step, &mut all)?;
     }
     Ok(Powers::of(all))

@@ -21,7 +21,7 @@ pub enum Step {
     Nodes,
     /// Binds roles that it doesn't have.
     Bind,
-    /// WritesRoles rules that it doesn't have.
+    /// Writes rules that it doesn't have.
     Escalate,
     /// Approves certificates that sign in as anyone.
     Certificates,
@@ -29,21 +29,21 @@ pub enum Step {
     Webhooks,
 }
 
-// All steps, in order of the table.
-pub(crate) const STEPS: [Step; 10] = [
-    Step::Impersonate,
-    Step::Token,
-    Step::Run,
-    Step::Exec,
-    Step::Secrets,
-    Step::Nodes,
-    Step::Bind,
-    Step::Escalate,
-    Step::Certificates,
-    Step::Webhooks,
-];
-
 impl Step {
+    /// All steps, in the order of the table.
+    pub const ALL: [Step; 10] = [
+        Step::Impersonate,
+        Step::Token,
+        Step::Run,
+        Step::Exec,
+        Step::Secrets,
+        Step::Nodes,
+        Step::Bind,
+        Step::Escalate,
+        Step::Certificates,
+        Step::Webhooks,
+    ];
+
     /// The word for the step (own).
     #[tactic(auto, unfolding(crate::specs::Steps::step_word))]
     pub fn word(self) -> &'static [u8]

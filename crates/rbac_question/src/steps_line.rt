@@ -9,20 +9,6 @@ ghost use Rattle.rbac_question.specs.StepsLines.{names_step, steps_meant};
 use rbac_paths::Step;
 use std::alloc::{AllocError, Global};
 
-// All steps, in the order of the table.
-const STEPS: [Step; 10] = [
-    Step::Impersonate,
-    Step::Token,
-    Step::Run,
-    Step::Exec,
-    Step::Secrets,
-    Step::Nodes,
-    Step::Bind,
-    Step::Escalate,
-    Step::Certificates,
-    Step::Webhooks,
-];
-
 // Whether a text is the word of one of these steps.
 fn is_word_of(steps: &[Step], text: &str) -> bool
     ensures { IsTrue result ↔ Any (λ step. text.now ≡ step_word step) steps.now }
@@ -35,7 +21,7 @@ fn is_word_of(steps: &[Step], text: &str) -> bool
 fn is_step_word(text: &str) -> bool
     ensures { IsTrue result ↔ IsStepWord text.now }
 {
-    is_word_of(&STEPS, text)
+    is_word_of(&Step::ALL, text)
 }
 
 // Whether each part between commas is the word of a step.
@@ -81,7 +67,7 @@ pub(crate) fn steps_from(alloc: Global, given: Option<&str>) -> Result<Vec<Step>
         (λ steps. steps.items ≡ steps_meant (option_map (λ t. t.now) given.entry)) }
 {
     match given {
-        Some(text) => named_among(alloc, &STEPS, text),
-        None => Vec::from_slice(alloc, &STEPS),
+        Some(text) => named_among(alloc, &Step::ALL, text),
+        None => Vec::from_slice(alloc, &Step::ALL),
     }
 }
