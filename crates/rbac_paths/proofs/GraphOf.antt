@@ -19,10 +19,10 @@ ok_both (Ok x) P Q R both first second = both x first second
 ok_both (Err e) P Q R both first second = tt
 
 -- what is said of each place holds with one more pushed
-pub pushed : {X : Type 0} (P : ℕ → NodeView → X → Type 0) (ys : List NodeView) (d : X) (xs : List X) (x : X) (count : ℕ) → length xs ≡ count
-    → ((k : ℕ) (y : NodeView) → k < count → slice_get ys k ≡ Some y → P k y (get_or xs k d)) → ((y : NodeView) → slice_get ys count ≡ Some y → P count y x)
-    → (k : ℕ) (y : NodeView) → k < count + 1 → slice_get ys k ≡ Some y → P k y (get_or (xs ++ x ∷ []) k d)
-pushed {X} P ys d xs x count len each last k y low at = elim (cases_lt k count) [
+pub pushed : {X Y : Type 0} (P : ℕ → Y → X → Type 0) (ys : List Y) (d : X) (xs : List X) (x : X) (count : ℕ) → length xs ≡ count
+    → ((k : ℕ) (y : Y) → k < count → slice_get ys k ≡ Some y → P k y (get_or xs k d)) → ((y : Y) → slice_get ys count ≡ Some y → P count y x)
+    → (k : ℕ) (y : Y) → k < count + 1 → slice_get ys k ≡ Some y → P k y (get_or (xs ++ x ∷ []) k d)
+pushed P ys d xs x count len each last k y low at = elim (cases_lt k count) [
   | inl less ↦ subst (P k y) (sym (get_or_append_left xs (x ∷ []) d k (let same = len in omega (arith, less, same)))) (each k y less at)
   | inr high ↦ (
       let same : k ≡ count = omega (arith, low, high) in

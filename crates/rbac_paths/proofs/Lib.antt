@@ -8,6 +8,7 @@ pub mod Allowing
 pub mod Asking
 pub mod Beginning
 pub mod BoundNames
+pub mod ByBinding
 pub mod ByRules
 pub mod Choosing
 pub mod Closed
@@ -36,6 +37,7 @@ pub mod Reasons
 pub mod RolePlaces
 pub mod RoleRules
 pub mod RowsOfStep
+pub mod RuleMarks
 pub mod RuleWords
 pub mod Scopes
 pub mod SharedWords

@@ -1,8 +1,8 @@
 -- Which grants decide what a node takes over, and that they do.
 use Rattle.std.specs.Prelude.{IsSomeAnd}
-use Rattle.std.proofs.Common.{◌≡◌, ◌≤◌, ◌<◌, ◌+◌, ◌++◌, ◌∙◌, ◌↔◌, ℕ, List, [], ◌∷◌, MatchOption, None, Option, Some, Any, map, Contains, ap, arith, get_or, inl, inr, length, refl, slice_get, subst, sym}
-use Rattle.std.proofs.lemmas.Bool.{cases_eq, cases_lt}
-use Rattle.std.proofs.lemmas.List.{get_or_append_left, get_or_at, get_or_past, length_push}
+use Rattle.std.proofs.Common.{◌≡◌, ◌<◌, ◌+◌, ◌++◌, ◌∙◌, ◌↔◌, ℕ, List, [], ◌∷◌, MatchOption, None, Option, Some, Any, map, Contains, ap, arith, get_or, inl, inr, length, refl, slice_get, subst, sym}
+use Rattle.std.proofs.lemmas.Bool.{cases_lt}
+use Rattle.std.proofs.lemmas.List.{length_push}
 use Rattle.std.proofs.lemmas.List.Elements.{Contains-append_cases, Contains-append_left, Contains-append_right, Contains-push, Contains-push_cases}
 use Rattle.std.proofs.lemmas.Option.{same_Some, slice_get_within}
 use Rattle.rbac_terms.specs.Matching.{VerbOk}
@@ -10,7 +10,7 @@ use Rattle.rbac_terms.specs.Principals.{Who}
 use Rattle.rbac_terms.specs.declared.matching.Rule.{Rule}
 use Rattle.rbac_model.proofs.BindingPlaces.{of_some_binding}
 use Rattle.rbac_model.proofs.OwnWords.{any_from}
-use Rattle.rbac_model.specs.Policies.{BindingNames, GrantView, IsOfBinding, IsPolicy, PolicyView}
+use Rattle.rbac_model.specs.Policies.{BindingNames, GrantView, IsPolicy, PolicyView}
 use Rattle.rbac_model.specs.Lists.{IsFirstAt}
 use Rattle.rbac_subjects.specs.Bound.{AreNamedPlaces}
 use Rattle.rbac_paths.specs.Aims.{GrantServes, Serves, ToTakeOver}
@@ -75,86 +75,12 @@ listed_more lists places place numbers are n = (
   ],
 )
 
--- ---- the grants of a binding, one after the other
+-- ---- the grants whose rules match
 
 module _ (p : PolicyView) (steps : List Step) where
-  -- exactly the numbers from `start` up to `end` of grants whose rules match
-  abbrev pub AreTakingIn : ℕ → ℕ → List ℕ → Type 0
-  AreTakingIn start end numbers = (n : ℕ) → Contains numbers n ↔ ((start ≤ n) × (n < end) × IsTakingAt p steps n)
-
-  pub taking_none : (start : ℕ) (numbers : List ℕ) → numbers ≡ [] → AreTakingIn start start numbers
-  taking_none start numbers empty n = (
-    λ c. absurd (let low = (subst (λ (ks : List ℕ). Contains ks n) empty c).1 in omega (arith, low)),
-    λ w. absurd (omega (arith, w.0, w.1)),
-  )
-
-  module _ (start number : ℕ) (numbers : List ℕ) (are : AreTakingIn start number numbers) (low : start ≤ number) where
-    pub taking_more : IsTakingAt p steps number → AreTakingIn start (number + 1) (numbers ++ number ∷ [])
-    taking_more is n = (
-      λ c. elim (Contains-push_cases numbers number n c) [
-        | inl old ↦ (let w = (are n).0 old in (w.0, omega (arith, w.1), w.2))
-        | inr same ↦ (omega (arith, low, same), omega (arith, same), subst (λ (k : ℕ). IsTakingAt p steps k) same is)
-      ],
-      λ w. elim (cases_eq n number) [
-        | inl same ↦ subst (λ (k : ℕ). Contains (numbers ++ number ∷ []) k) (sym same) (Contains-push numbers number)
-        | inr other ↦ Contains-append_left numbers (number ∷ []) n ((are n).1 (w.0, omega (arith, w.1, other), w.2))
-      ],
-    )
-
-    pub taking_same : (IsTakingAt p steps number → ⊥) → AreTakingIn start (number + 1) numbers
-    taking_same none n = (
-      λ c. (let w = (are n).0 c in (w.0, omega (arith, w.1), w.2)),
-      λ w. elim (cases_eq n number) [
-        | inl same ↦ absurd (none (subst (λ (k : ℕ). IsTakingAt p steps k) same w.2))
-        | inr other ↦ (are n).1 (w.0, omega (arith, w.1, other), w.2)
-      ],
-    )
-
   -- of a grant whose rule is known
   pub taking_rule : (number : ℕ) (g : GrantView) → slice_get p.grants number ≡ Some g → IsTakingAt p steps number → SomeRowMatches steps g.rule.rule
   taking_rule number g here is = subst (λ (x : GrantView). SomeRowMatches steps x.rule.rule) (same_Some is.0 g (sym is.1 ∙ here)) is.2
-
-  -- exactly the numbers of the binding's grants whose rules match
-  abbrev pub AreTakingOf : ℕ → List ℕ → Type 0
-  AreTakingOf place numbers = (n : ℕ) → Contains numbers n ↔ (IsOfBinding p n place × IsTakingAt p steps n)
-
-  pub taking_of : IsPolicy p → (place start end : ℕ) → ((n at : ℕ) → IsOfBinding p n at → ((start ≤ n) × (n < end)) ↔ (at ≡ place)) → (numbers : List ℕ) → AreTakingIn start end numbers → AreTakingOf place numbers
-  taking_of ok place start end between numbers are n = (
-    λ c.
-        (let w = (are n).0 c in
-        let of = of_some_binding p ok n (slice_get_within p.grants n w.2.0 w.2.1) in
-        (subst (λ (k : ℕ). IsOfBinding p n k) ((between n of.0 of.1).0 (w.0, w.1)) of.1, w.2)),
-    λ w. (let low = (between n place w.0).1 refl in (are n).1 (low.0, low.1, w.1)),
-  )
-
-  -- ---- binding by binding
-
-  pub record AreTakingBelow (count : ℕ) (lists : List (List ℕ)) : Type 0 where
-    pub len : length lists ≡ count
-    pub each : (at : ℕ) → at < count → AreTakingOf at (get_or lists at [])
-
-  pub below_more : (count : ℕ) (lists : List (List ℕ)) (numbers : List ℕ) → AreTakingBelow count lists → AreTakingOf count numbers → AreTakingBelow (count + 1) (lists ++ numbers ∷ [])
-  below_more count lists numbers below of = record {
-    len = length_push lists numbers ∙ ap (λ (n : ℕ). n + 1) below.len;
-    each = λ at low. elim (cases_lt at count) [
-      | inl less ↦ subst (AreTakingOf at) (sym (get_or_append_left lists (numbers ∷ []) [] at (let same = below.len in omega (arith, less, same)))) (below.each at less)
-      | inr high ↦ (
-          let same : at ≡ count = omega (arith, low, high) in
-          subst (AreTakingOf at) (sym (get_or_at lists numbers [] [] at (below.len ∙ sym same))) (subst (λ (k : ℕ). AreTakingOf k numbers) (sym same) of)
-          )
-    ];
-  }
-
-  pub below_all : (count : ℕ) (lists : List (List ℕ)) → length p.held.bindings ≡ count → AreTakingBelow count lists → AreTakingGrants p steps lists
-  below_all count lists end below n at = elim (cases_lt at count) [
-    | inl low ↦ below.each at low n
-    | inr high ↦ (
-        let empty : get_or lists at [] ≡ [] = get_or_past lists at [] (let same = below.len in omega (arith, high, same)) in (
-          λ c. absurd (let low = (subst (λ (ks : List ℕ). Contains ks n) empty c).1 in omega (arith, low)),
-          λ w. absurd (let within = slice_get_within p.held.bindings at w.0.0.binding w.0.2 in omega (arith, within, high, end)),
-        )
-        )
-  ]
 
   pub listed_all : IsPolicy p → (who : Who) (lists : List (List ℕ)) (places numbers : List ℕ) → AreTakingGrants p steps lists → AreNamedPlaces p who places → AreListedAt lists places numbers → AreTakingNumbers p steps who numbers
   listed_all ok who lists places numbers taking named are n = (

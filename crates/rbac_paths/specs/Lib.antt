@@ -2,6 +2,7 @@ pub mod Access
 pub mod AddingNodes
 pub mod Agreement
 pub mod Aims
+pub mod Allowed
 pub mod Asked
 pub mod BoundNames
 pub mod Deciding

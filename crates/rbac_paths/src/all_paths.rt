@@ -21,9 +21,10 @@ ghost use Rattle.rbac_paths.specs.Tracing.{AreLinked, ArePathsAt, HasKeyAt, HasK
 ghost use Rattle.rbac_paths.specs.Tracing.{IsPathAt, IsUnled};
 
 use crate::bound_names::bound_names;
-use crate::deciding::{deciding_holdings, listed_at, numbers_of_nodes};
+use crate::deciding::{deciding_holdings, numbers_of_nodes};
 use crate::graph::graph_of;
 use crate::holding::rule_of_all;
+use crate::listed::listed_at;
 use crate::node::Node;
 use crate::nodes::nodes_of;
 use crate::principals::principals_with;

@@ -1,6 +1,6 @@
 //! The ways to what is asked for.
 
-ghost use Rattle.std.specs.Prelude.{◌≡◌, ◌≢◌, ◌↔◌, ℕ, All, AllPairs, Any, Contains, IfOk, IsTrue};
+ghost use Rattle.std.specs.Prelude.{◌≡◌, ◌≢◌, ◌↔◌, ℕ, All, AllPairs, Contains, IfOk, IsTrue};
 ghost use Rattle.std.specs.Prelude.{IsSome, MatchOption, None, length, map, slice_index_or};
 ghost use Rattle.std.specs.declared.cmp.Ordering.TheVariants.{Less};
 ghost use Rattle.rbac_terms.specs.Principals.{who_key};
@@ -10,7 +10,6 @@ ghost use Rattle.rbac_model.specs.Policies.{IsPolicy};
 ghost use Rattle.rbac_model.specs.Unions.{who_name};
 ghost use Rattle.rbac_ways.specs.Ways.{AreInOrder};
 ghost use Rattle.rbac_paths.specs.Access.{AllowsAccess, access_of};
-ghost use Rattle.rbac_paths.specs.Aims.{Serves, ToBeAllowed};
 ghost use Rattle.rbac_paths.specs.Deciding.{AreNumbers};
 ghost use Rattle.rbac_paths.specs.Having.{rule_of_all};
 ghost use Rattle.rbac_paths.specs.NodeLists.{node_text};
@@ -24,10 +23,12 @@ ghost use Rattle.rbac_paths.specs.WaysTo.{AreWaysTo};
 use crate::access::Access;
 use crate::aim::Aim;
 use crate::all_paths::last_step;
+use crate::allowed::places_of_allowing;
 use crate::bound_names::bound_names;
-use crate::deciding::{listed_at, numbers_of_nodes};
+use crate::deciding::numbers_of_nodes;
 use crate::graph::graph_of;
-use crate::holding::{Holding, holdings_of, rule_of_all};
+use crate::holding::rule_of_all;
+use crate::listed::listed_at;
 use crate::node::Node;
 use crate::nodes::nodes_of;
 use crate::reason::{Reason, reason_of};
@@ -149,58 +150,6 @@ fn is_somebody(node: Node<'_>) -> bool
     ensures { IsTrue result ↔ IsSomebody (node_of node.entry) }
 {
     matches!(node, Node::Somebody(_))
-}
-
-// The places of the nodes among these that allow what is asked for.
-fn places_of_allowing(
-    alloc: Global,
-    policy: &Policy,
-    index: &SubjectIndex<'_>,
-    nodes: &[Node<'_>],
-    access: Access<'_>,
-) -> Result<Vec<usize>, AllocError>
-    requires policy { IsPolicy policy.now }
-    requires index { index.now ≡ policy.now }
-    requires held { All (HasItsRole policy.now.held) (map node_of nodes.now) }
-    ensures { IfOk result (λ places. (j : ℕ) → Contains places.items j
-        ↔ IsAt (AllowsAccess policy.now (access_of access.entry)) (map node_of nodes.now) j) }
-{
-    let all = rule_of_all(alloc)?;
-    let mut places = Vec::new(alloc);
-    for (place, node) in nodes.iter().enumerate() {
-        if allows(alloc, policy, index, &all, *node, access)? {
-            places.push(place)?;
-        }
-    }
-    Ok(places)
-}
-
-// Whether a node allows what is asked for.
-fn allows(
-    alloc: Global,
-    policy: &Policy,
-    index: &SubjectIndex<'_>,
-    all: &Rule,
-    node: Node<'_>,
-    access: Access<'_>,
-) -> Result<bool, AllocError>
-    requires policy { IsPolicy policy.now }
-    requires index { index.now ≡ policy.now }
-    requires all { all.now ≡ rule_of_all }
-    requires role { HasItsRole policy.now.held (node_of node) }
-    ensures { IfOk result
-        (λ does. IsTrue does ↔ AllowsAccess policy.now (access_of access.entry) (node_of node.entry)) }
-{
-    let holdings = holdings_of(alloc, policy, index, all, node)?;
-    Ok(some_gives(holdings.as_slice(), access))
-}
-
-// Whether some of these allows what is asked for where it counts.
-fn some_gives(holdings: &[Holding<'_>], access: Access<'_>) -> bool
-    ensures { IsTrue result ↔ Any
-        (λ h. Serves (ToBeAllowed (access_of access.entry)) h.home h.rule) holdings.now }
-{
-    holdings.iter().any(|held| access.is_given_by(held))
 }
 
 // The ways from the nodes that were reached, of those that are come to.

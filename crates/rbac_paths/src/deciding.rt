@@ -1,21 +1,21 @@
 //! Which of the rules that nodes have decide what they take over: those that match some row of the
-//! table. Most rules of an export match none, so each grant is asked once, and not again for each
-//! node that has it.
+//! table. Most rules of an export match none, so each rule is asked once, and not again for each grant
+//! and each node that has it.
 
-ghost use Rattle.std.specs.Prelude.{◌≡◌, ◌↔◌, ◌<◌, [], All, Any, Contains, IfOk, IsTrue, List, Some, length, map, ℕ};
-ghost use Rattle.std.specs.Prelude.{slice_get, slice_index_or};
-ghost use Rattle.rbac_model.specs.Policies.{GrantView, IsOfBinding, IsPolicy};
+ghost use Rattle.std.specs.Prelude.{◌≡◌, ◌<◌, [], All, IfOk, List, length, map, replicate};
+ghost use Rattle.rbac_model.specs.Policies.{IsPolicy};
 ghost use Rattle.rbac_paths.specs.Deciding.{AreNumbers, AreNumbersOf, AreTakingGrants, AreTakingNumbers};
-ghost use Rattle.rbac_paths.specs.Deciding.{GiveHoldings, IsAnyNode, IsTakingAt, MatchesStep, SomeRowMatches};
+ghost use Rattle.rbac_paths.specs.Deciding.{GiveHoldings, IsAnyNode};
 ghost use Rattle.rbac_paths.specs.Having.{rule_of_all};
 ghost use Rattle.rbac_paths.specs.Joints.{DecideOn};
 ghost use Rattle.rbac_paths.specs.Nodes.{node_of};
 ghost use Rattle.rbac_paths.specs.Told.{HasItsRole};
 ghost use Rattle.rbac_paths.specs.declared.steps.Step.{Step};
 
-use crate::bound_names::matches_some;
 use crate::holding::{Holding, holdings_of};
+use crate::listed::listed_at;
 use crate::node::Node;
+use crate::rule_marks::RuleMarks;
 use crate::told::StepRows;
 use rbac_model::Policy;
 use rbac_subjects::SubjectIndex;
@@ -81,65 +81,31 @@ fn numbers_of_somebody(
     Ok(Items::from_vec(numbers))
 }
 
-/// What is listed at this place; nothing past the last.
-pub(crate) fn listed_at(lists: &[Items<u32>], place: usize) -> &[u32]
-    ensures { result.now ≡ slice_index_or lists.now place [] }
-{
-    match lists.get(place) {
-        Some(listed) => listed.as_slice(),
-        None => &[],
-    }
-}
-
 // For each binding, the numbers of its grants whose rules match some row of these steps.
 fn taking_grants(
     alloc: Global,
     policy: &Policy,
     steps: &[StepRows],
 ) -> Result<Vec<Items<u32>>, AllocError>
+    requires { IsPolicy policy.now }
     ensures { IfOk result (λ lists. AreTakingGrants policy.now steps.now lists.items) }
 {
-    let count = policy.bindings().len();
-    let mut lists = Vec::with_capacity(alloc, count)?;
-    for place in 0..count {
-        lists.push(taking_grants_of(alloc, policy, steps, place)?)?;
+    let marks = RuleMarks::of_matching(alloc, policy.objects(), steps)?;
+    let mut lists = no_numbers(alloc, policy.bindings().len())?;
+    for no in 0..policy.len() {
+        let at = policy.place(no);
+        if marks.has(at.role, at.rule) {
+            lists[at.binding].push(no)?;
+        }
     }
     Ok(lists)
 }
 
-// The same of the binding at this place.
-fn taking_grants_of(
-    alloc: Global,
-    policy: &Policy,
-    steps: &[StepRows],
-    place: usize,
-) -> Result<Items<u32>, AllocError>
-    ensures { IfOk result (λ numbers. (n : ℕ) → Contains numbers n
-        ↔ (IsOfBinding policy.now n place × IsTakingAt policy.now steps.now n)) }
+// This many lists without numbers.
+fn no_numbers(alloc: Global, count: usize) -> Result<Vec<Items<u32>>, AllocError>
+    ensures { IfOk result (λ lists. lists.items ≡ replicate count []) }
 {
-    let (start, end) = policy.grants_of(place);
-    let mut numbers = Vec::new(alloc);
-    for no in start..end {
-        if some_row_matches(steps, policy.grant(no).rule) {
-            numbers.push(no)?;
-        }
-    }
-    Ok(Items::from_vec(numbers))
-}
-
-// Whether the rule matches some row of these steps.
-#[tactic(auto, unfolding(crate::specs::Deciding::SomeRowMatches))]
-fn some_row_matches(steps: &[StepRows], rule: &Rule) -> bool
-    ensures { IsTrue result ↔ SomeRowMatches steps.now rule.now }
-{
-    steps.iter().any(|step| matches_step(step, rule))
-}
-
-// Whether the rule matches some row of the step.
-fn matches_step(step: &StepRows, rule: &Rule) -> bool
-    ensures { IsTrue result ↔ MatchesStep rule.now step.now }
-{
-    matches_some(step.rows(), rule)
+    vec![in alloc; Items::new(alloc); count]
 }
 
 /// Rules that a node has, which decide what it takes over; of somebody's these are the numbers of

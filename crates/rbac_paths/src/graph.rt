@@ -15,8 +15,9 @@ ghost use Rattle.rbac_paths.specs.TakingOver.{MayGoOn, TakesOver};
 ghost use Rattle.rbac_paths.specs.Told.{HasItsRole};
 ghost use Rattle.rbac_paths.specs.declared.steps.Step.TheVariants.{Bind, Escalate};
 
-use crate::deciding::{deciding_holdings, listed_at};
+use crate::deciding::deciding_holdings;
 use crate::holding::{Holding, rule_of_all};
+use crate::listed::listed_at;
 use crate::node::Node;
 use crate::rows::WordRow;
 use crate::steps::Step;

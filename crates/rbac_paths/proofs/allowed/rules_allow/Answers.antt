@@ -3,7 +3,7 @@ use Rattle.rbac_paths.specs.Access.{access_of}
 use Rattle.rbac_paths.specs.Having.{AreHoldings, HoldingView}
 use Rattle.rbac_paths.specs.Nodes.{node_of}
 use Rattle.rbac_paths.proofs.Reasons.{allowed_by}
-use Rattle.rbac_paths.proofs.all_ways.allows.Goals as goal
+use Rattle.rbac_paths.proofs.allowed.rules_allow.Goals as goal
 
 pub returns : goal.returns
 returns c =

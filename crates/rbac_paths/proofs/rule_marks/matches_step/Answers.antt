@@ -1,5 +1,5 @@
 use Rattle.rbac_paths.proofs.WhatDecides.{matches_rows}
-use Rattle.rbac_paths.proofs.deciding.matches_step.Goals as goal
+use Rattle.rbac_paths.proofs.rule_marks.matches_step.Goals as goal
 
 pub returns : goal.returns
 returns c =

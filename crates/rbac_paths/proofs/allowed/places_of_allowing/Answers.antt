@@ -7,8 +7,8 @@ use Rattle.rbac_paths.specs.Told.{HasItsRole}
 use Rattle.rbac_paths.specs.Tracing.{IsAt}
 use Rattle.rbac_paths.proofs.Mapped.{mapped_at, mapped_has}
 use Rattle.rbac_paths.proofs.Tracing.{all_below, below_more, below_same, is_here}
-use Rattle.rbac_paths.proofs.all_ways.places_of_allowing.Goals as goal
-use Rattle.rbac_paths.proofs.all_ways.places_of_allowing.Goals.{then-branch+in_ok-push, else-branch}
+use Rattle.rbac_paths.proofs.allowed.places_of_allowing.Goals as goal
+use Rattle.rbac_paths.proofs.allowed.places_of_allowing.Goals.{then-branch+in_ok-push, else-branch}
 
 pub allows-requires-clause-role : goal.allows-requires-clause-role
 allows-requires-clause-role c = mapped_has node_of (HasItsRole c.args.policy.now.held) c.args.nodes.now c.loop-place.place c.index-nodes-place.result c.loop-place-test.true c.index-nodes-place.is c.requires.held

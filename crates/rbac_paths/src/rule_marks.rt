@@ -1,0 +1,121 @@
+//! Which rules of roles match some row of some steps. Each rule is asked once, however many bindings
+//! grant it.
+
+ghost use Rattle.std.specs.Prelude.{◌≡◌, ◌↔◌, IfOk, IsTrue, Some, [], false, slice_get, slice_index_or, ℕ};
+ghost use Rattle.rbac_terms.specs.declared.granting.ClusterRole.{ClusterRole};
+ghost use Rattle.rbac_terms.specs.declared.granting.Role.{Role};
+ghost use Rattle.rbac_paths.specs.Deciding.{MarkMatching, MarkRules, MatchesStep, SomeRowMatches, marks_at};
+
+use crate::bound_names::matches_some;
+use crate::listed::{is_marked, listed_at};
+use crate::told::StepRows;
+use rbac_model::{Objects, RolePlace};
+use rbac_terms::{ClusterRole, Items, Role, Rule};
+use std::alloc::{AllocError, Global};
+use std::marker::Model;
+
+/// For each role of each kind, a mark for each of its rules.
+#[derive(Drop)]
+pub(crate) struct RuleMarks {
+    roles: Vec<Items<bool>>,
+    cluster_roles: Vec<Items<bool>>,
+}
+
+impl Model for RuleMarks {
+    ghost use Rattle.rbac_paths.specs.Deciding.{MarksView};
+
+    ghost Value = { MarksView };
+
+    ghost view = { λ m. record { roles = m.roles.items; cluster_roles = m.cluster_roles.items } };
+}
+
+impl RuleMarks {
+    /// Marks the rules of these roles that match some row of these steps.
+    pub(crate) fn of_matching(
+        alloc: Global,
+        objects: &Objects,
+        steps: &[StepRows],
+    ) -> Result<Self, AllocError>
+        ensures { IfOk result (MarkMatching objects.now steps.now) }
+    {
+        Ok(RuleMarks {
+            roles: marks_of_roles(alloc, objects.roles(), steps)?,
+            cluster_roles: marks_of_cluster_roles(alloc, objects.cluster_roles(), steps)?,
+        })
+    }
+
+    /// Whether the rule at a place in the role at a place is marked; none past the last is.
+    pub(crate) fn has(&self, role: RolePlace, rule: usize) -> bool
+        ensures { result ≡ slice_index_or (marks_at self.now role) rule false }
+    {
+        is_marked(self.of_role(role), rule)
+    }
+
+    // The marks of the rules of the role at this place; none past the last.
+    fn of_role(&self, role: RolePlace) -> &[bool]
+        ensures { result.now ≡ marks_at self.now role }
+    {
+        match role {
+            RolePlace::RoleAt(at) => listed_at(self.roles.as_slice(), at),
+            RolePlace::ClusterRoleAt(at) => listed_at(self.cluster_roles.as_slice(), at),
+        }
+    }
+}
+
+// Marks for the rules of each of these roles.
+fn marks_of_roles(
+    alloc: Global,
+    roles: &[Role],
+    steps: &[StepRows],
+) -> Result<Vec<Items<bool>>, AllocError>
+    ensures { IfOk result (λ all. (at : ℕ) (role : Role) → slice_get roles.now at ≡ Some role
+        → MarkRules steps.now role.rules (slice_index_or all.items at [])) }
+{
+    let mut all = Vec::with_capacity(alloc, roles.len())?;
+    for role in roles {
+        all.push(marks_of(alloc, role.rules.as_slice(), steps)?)?;
+    }
+    Ok(all)
+}
+
+// The same of cluster roles.
+fn marks_of_cluster_roles(
+    alloc: Global,
+    roles: &[ClusterRole],
+    steps: &[StepRows],
+) -> Result<Vec<Items<bool>>, AllocError>
+    ensures { IfOk result (λ all. (at : ℕ) (role : ClusterRole) → slice_get roles.now at ≡ Some role
+        → MarkRules steps.now role.rules (slice_index_or all.items at [])) }
+{
+    let mut all = Vec::with_capacity(alloc, roles.len())?;
+    for role in roles {
+        all.push(marks_of(alloc, role.rules.as_slice(), steps)?)?;
+    }
+    Ok(all)
+}
+
+// A mark for each of these rules: whether it matches some row of these steps.
+fn marks_of(alloc: Global, rules: &[Rule], steps: &[StepRows]) -> Result<Items<bool>, AllocError>
+    ensures { IfOk result (MarkRules steps.now rules.now) }
+{
+    let mut marks = Vec::with_capacity(alloc, rules.len())?;
+    for rule in rules {
+        marks.push(some_row_matches(steps, rule))?;
+    }
+    Ok(Items::from_vec(marks))
+}
+
+// Whether the rule matches some row of these steps.
+#[tactic(auto, unfolding(crate::specs::Deciding::SomeRowMatches))]
+fn some_row_matches(steps: &[StepRows], rule: &Rule) -> bool
+    ensures { IsTrue result ↔ SomeRowMatches steps.now rule.now }
+{
+    steps.iter().any(|step| matches_step(step, rule))
+}
+
+// Whether the rule matches some row of the step.
+fn matches_step(step: &StepRows, rule: &Rule) -> bool
+    ensures { IsTrue result ↔ MatchesStep rule.now step.now }
+{
+    matches_some(step.rows(), rule)
+}
