@@ -1,9 +1,8 @@
 -- The roles that a node takes over, and everything, one after another.
 use Rattle.std.proofs.Common.{◌≡◌, ◌⊎◌, ◌↔◌, ◌∙◌, ◌<◌, ◌+◌, ◌++◌, ℕ, Bor, List, [], ◌∷◌, Option, None, Some, IsSome, MatchOption, Any, Contains, false, refl, true, ap, arith, get_or, inl, inr, length, slice_get, subst, sym, take}
-use Rattle.std.proofs.lemmas.Bool.{cases_eq}
 use Rattle.std.proofs.lemmas.List.{take_more}
 use Rattle.std.proofs.lemmas.List.Elements.{Contains-append_left, Contains-push, Contains-push_cases}
-use Rattle.std.proofs.lemmas.Option.{same_Some, slice_get_within}
+use Rattle.std.proofs.lemmas.Option.{same_Some}
 use Rattle.rbac_terms.specs.Matching.{VerbOk}
 use Rattle.rbac_terms.specs.Targets.{Resource}
 use Rattle.rbac_terms.specs.Text.{Text}
@@ -12,7 +11,7 @@ use Rattle.rbac_model.proofs.OwnWords.{any_from}
 use Rattle.rbac_model.specs.Policies.{Live, PolicyView}
 use Rattle.rbac_paths.specs.Deciding.{IsAnyNode}
 use Rattle.rbac_paths.specs.Having.{HoldingView}
-use Rattle.rbac_paths.specs.Joints.{AreOthers, AreOverOthers, CountsAt, DecideOn, IsAboutNode, IsNobody, IsOther, IsOverNobody, MatchesOverOthers, MayTakeBy, SomeMayTake, scope_at}
+use Rattle.rbac_paths.specs.Joints.{AreOtherPlaces, AreOthers, AreOverOthers, CountsAt, DecideOn, IsAboutNode, IsNobody, IsOther, IsOverNobody, MatchesOverOthers, MayTakeBy, SomeMayTake, scope_at}
 use Rattle.rbac_paths.specs.Nodes.{NodeView, Somebody, ClusterRoleIn, OwnRole, EverythingIn}
 use Rattle.rbac_paths.specs.Rows.{AreOfStep, HasRowResource}
 use Rattle.rbac_paths.specs.Steps.{RowView, asked_in, table}
@@ -162,43 +161,43 @@ module _ (p : PolicyView) (steps : List Step) (x : NodeView) (ys : List NodeView
     λ o. absurd (let t = o.3 in let a = (decide t.0 o.0 t.1.among o.2).1 t.1.can in let low = a.2 in omega (arith, low)),
   )
 
-  -- those below a place
-  abbrev pub AreOthersBelow : ℕ → List ℕ → Type 0
-  AreOthersBelow bound js = (j : ℕ) → Contains js j ↔ ((j < bound) × IsOther p steps x ys j)
+  -- those at some places
+  abbrev pub AreOthersOf : List ℕ → List ℕ → Type 0
+  AreOthersOf places js = (j : ℕ) → Contains js j ↔ (Contains places j × IsOther p steps x ys j)
 
-  pub others_none : (js : List ℕ) → js ≡ [] → AreOthersBelow 0 js
+  pub others_none : (js : List ℕ) → js ≡ [] → AreOthersOf [] js
   others_none js empty j = (
     λ c. absurd (let low = (subst (λ (ks : List ℕ). Contains ks j) empty c).1 in omega (arith, low)),
-    λ w. absurd (let low = w.0 in omega (arith, low)),
+    λ w. absurd (let low = w.0.1 in omega (arith, low)),
   )
 
-  module _ (place : ℕ) (y : NodeView) (at : slice_get ys place ≡ Some y) (js : List ℕ) (below : AreOthersBelow place js) where
-    pub others_more : IsNobody y × TakesOver p steps x y → AreOthersBelow (place + 1) (js ++ place ∷ [])
-    others_more is j = (
+  module _ (places : List ℕ) (place : ℕ) (y : NodeView) (at : slice_get ys place ≡ Some y) (js : List ℕ) (of : AreOthersOf places js) where
+    pub others_more : IsNobody y → TakesOver p steps x y → AreOthersOf (places ++ place ∷ []) (js ++ place ∷ [])
+    others_more nobody takes j = (
       λ c. elim (Contains-push_cases js place j c) [
-        | inl old ↦ (let w = (below j).0 old in (let low = w.0 in omega (arith, low), w.1))
-        | inr same ↦ (omega (arith, same), (y, subst (λ (k : ℕ). slice_get ys k ≡ Some y) same at, is.0, is.1))
+        | inl old ↦ (let w = (of j).0 old in (Contains-append_left places (place ∷ []) j w.0, w.1))
+        | inr same ↦ (subst (Contains (places ++ place ∷ [])) same (Contains-push places place), (y, subst (λ (k : ℕ). slice_get ys k ≡ Some y) same at, nobody, takes))
       ],
-      λ w. elim (cases_eq j place) [
-        | inl same ↦ subst (λ (k : ℕ). Contains (js ++ place ∷ []) k) (sym same) (Contains-push js place)
-        | inr other ↦ Contains-append_left js (place ∷ []) j ((below j).1 (let low = w.0 in omega (arith, low, other), w.1))
+      λ w. elim (Contains-push_cases places place j w.0) [
+        | inl old ↦ Contains-append_left js (place ∷ []) j ((of j).1 (old, w.1))
+        | inr same ↦ subst (Contains (js ++ place ∷ [])) same (Contains-push js place)
       ],
     )
 
-    pub others_same : (IsNobody y × TakesOver p steps x y → ⊥) → AreOthersBelow (place + 1) js
+    pub others_same : (TakesOver p steps x y → ⊥) → AreOthersOf (places ++ place ∷ []) js
     others_same none j = (
-      λ c. (let w = (below j).0 c in (let low = w.0 in omega (arith, low), w.1)),
-      λ w. elim (cases_eq j place) [
-        | inl same ↦ absurd (
+      λ c. (let w = (of j).0 c in (Contains-append_left places (place ∷ []) j w.0, w.1)),
+      λ w. elim (Contains-push_cases places place j w.0) [
+        | inl old ↦ (of j).1 (old, w.1)
+        | inr same ↦ absurd (
             let o = w.1 in
-            let is : y ≡ o.0 = same_Some y o.0 (sym (subst (λ (k : ℕ). slice_get ys k ≡ Some y) (sym same) at) ∙ o.1) in
-            none (subst (λ (z : NodeView). IsNobody z × TakesOver p steps x z) (sym is) (o.2, o.3)))
-        | inr other ↦ (below j).1 (let low = w.0 in omega (arith, low, other), w.1)
+            let is : y ≡ o.0 = same_Some y o.0 (sym (subst (λ (k : ℕ). slice_get ys k ≡ Some y) same at) ∙ o.1) in
+            none (subst (λ (z : NodeView). TakesOver p steps x z) (sym is) o.3))
       ],
     )
 
-  pub others_all : (bound : ℕ) (js : List ℕ) → length ys ≡ bound → AreOthersBelow bound js → AreOthers p steps x ys js
-  others_all bound js end below j = (
-    λ c. ((below j).0 c).1,
-    λ o. (below j).1 (let low = slice_get_within ys j o.0 o.1 in omega (arith, low, end), o),
+  pub others_all : (places js : List ℕ) → AreOtherPlaces ys places → AreOthersOf places js → AreOthers p steps x ys js
+  others_all places js are of j = (
+    λ c. ((of j).0 c).1,
+    λ o. (of j).1 ((are j).1 (o.0, o.1, o.2), o),
   )

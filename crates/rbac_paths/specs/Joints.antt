@@ -13,6 +13,7 @@ use Rattle.rbac_paths.specs.Steps.{RowView, table}
 use Rattle.rbac_paths.specs.Taking.{CanTakeOver}
 use Rattle.rbac_paths.specs.TakingOver.{TakesOver}
 use Rattle.rbac_paths.specs.Told.{HoldingsTake}
+use Rattle.rbac_paths.specs.Tracing.{IsAt}
 use Rattle.rbac_paths.specs.declared.steps.Step.{Step}
 use Rattle.rbac_paths.specs.declared.table.Over.{Over}
 use Rattle.rbac_paths.specs.declared.table.Over.TheVariants as over
@@ -28,6 +29,10 @@ IsNobody (Somebody who) = ⊥
 IsNobody (ClusterRoleIn role scope) = Unit {0}
 IsNobody (OwnRole role) = Unit {0}
 IsNobody (EverythingIn scope) = Unit {0}
+
+-- exactly the places of the roles among these, and of everything
+abbrev pub AreOtherPlaces : List NodeView → List ℕ → Type 0
+AreOtherPlaces ys places = (j : ℕ) → Contains places j ↔ IsAt IsNobody ys j
 
 -- at that place among these is a role, or everything, that x takes over
 abbrev pub IsOther : PolicyView → List Step → NodeView → List NodeView → ℕ → Type 0

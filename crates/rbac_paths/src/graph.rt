@@ -5,7 +5,8 @@ ghost use Rattle.std.specs.Option.{option_copied};
 ghost use Rattle.rbac_terms.specs.Principals.{Who};
 ghost use Rattle.rbac_model.specs.Policies.{IsPolicy, PolicyView};
 ghost use Rattle.rbac_paths.specs.Deciding.{AreNumbers, IsAnyNode};
-ghost use Rattle.rbac_paths.specs.Joints.{AreHad, AreOthers, AreOverOthers, AreScoped, CountsAt, DecideOn, IsHadBy};
+ghost use Rattle.rbac_paths.specs.Joints.{AreHad, AreOtherPlaces, AreOthers, AreOverOthers, AreScoped, CountsAt};
+ghost use Rattle.rbac_paths.specs.Joints.{DecideOn, IsHadBy};
 ghost use Rattle.rbac_paths.specs.Joints.{IsNobody, IsOverNobody, MatchesOverOthers, MayTakeBy};
 ghost use Rattle.rbac_paths.specs.Joints.{SomeMayTake, scope_at};
 ghost use Rattle.rbac_paths.specs.Joints.{TakesByWords};
@@ -50,16 +51,32 @@ pub(crate) fn graph_of<'p>(
     let all = rule_of_all(alloc)?;
     let rows = rows_of_steps(alloc, &[Step::Bind, Step::Escalate])?;
     let writing = rows.as_slice();
+    let others = places_of_others(alloc, nodes)?;
+    let others = others.as_slice();
     let mut takes = Vec::with_capacity(alloc, nodes.len())?;
     let mut also = Vec::with_capacity(alloc, nodes.len())?;
     for (place, node) in nodes.iter().enumerate() {
         let own = listed_at(numbers, place);
         let holdings = deciding_holdings(alloc, policy, index, &all, *node, own)?;
-        takes.push(words_taken(alloc, steps, holdings.as_slice(), *node)?)?;
-        also.push(others_taken(alloc, steps, writing, holdings.as_slice(), *node, nodes)?)?;
+        let held = holdings.as_slice();
+        takes.push(words_taken(alloc, steps, held, *node)?)?;
+        also.push(others_taken(alloc, steps, writing, held, *node, nodes, others)?)?;
     }
     let had_by = words_of_nodes(alloc, nodes)?;
     Graph::joined(alloc, takes.as_slice(), had_by.as_slice(), also.as_slice())
+}
+
+// The places of the roles among these nodes, and of everything. Most nodes are users and groups.
+fn places_of_others(alloc: Global, nodes: &[Node<'_>]) -> Result<Vec<usize>, AllocError>
+    ensures { IfOk result (λ places. AreOtherPlaces (map node_of nodes.now) places.items) }
+{
+    let mut places = Vec::new(alloc);
+    for (place, node) in nodes.iter().enumerate() {
+        if is_nobody(*node) {
+            places.push(place)?;
+        }
+    }
+    Ok(places)
 }
 
 // The words that a node takes; these holdings decide that.
@@ -88,7 +105,7 @@ fn goes_further(node: Node<'_>) -> bool
 }
 
 // The places of the roles among these nodes, and of everything, that a node takes over; these holdings
-// decide that. The steps by which one writes are given.
+// decide that. The steps by which one writes are given, and the places of all roles and everything.
 fn others_taken(
     alloc: Global,
     steps: &[StepRows],
@@ -96,8 +113,10 @@ fn others_taken(
     holdings: &[Holding<'_>],
     from: Node<'_>,
     nodes: &[Node<'_>],
+    others: &[usize],
 ) -> Result<Items<usize>, AllocError>
-    requires { writing.now ≡ Bind ∷ Escalate ∷ [] }
+    requires writing { writing.now ≡ Bind ∷ Escalate ∷ [] }
+    requires others { AreOtherPlaces (map node_of nodes.now) others.now }
     ensures { (p : PolicyView)
         → DecideOn p steps.now (node_of from.entry) holdings.now IsAnyNode
         → IfOk result
@@ -109,7 +128,7 @@ fn others_taken(
         return Ok(Items::new(alloc));
     }
     let scoped = scoped(alloc, steps, writing, few)?;
-    others_among(alloc, steps, few, scoped.as_slice(), from, nodes)
+    others_among(alloc, steps, few, scoped.as_slice(), from, nodes, others)
 }
 
 // Those of the holdings in whose scopes a node may take over roles, and everything in a namespace. Only
@@ -131,7 +150,7 @@ fn scoped<'p>(
     over_others(alloc, writing, holdings)
 }
 
-// The same, where each of the nodes is asked for.
+// The same, where each of the others is asked for.
 fn others_among(
     alloc: Global,
     steps: &[StepRows],
@@ -139,37 +158,22 @@ fn others_among(
     scoped: &[Holding<'_>],
     from: Node<'_>,
     nodes: &[Node<'_>],
+    others: &[usize],
 ) -> Result<Items<usize>, AllocError>
+    requires { AreOtherPlaces (map node_of nodes.now) others.now }
     ensures { (p : PolicyView)
         → DecideOn p steps.now (node_of from.entry) holdings.now IsNobody
         → AreScoped p steps.now (node_of from.entry) scoped.now
         → IfOk result
         (λ js. AreOthers p steps.now (node_of from.entry) (map node_of nodes.now) js) }
 {
-    let mut others = Vec::new(alloc);
-    for (place, to) in nodes.iter().enumerate() {
-        if takes_other(steps, holdings, scoped, from, *to) {
-            others.push(place)?;
+    let mut taken = Vec::new(alloc);
+    for place in others {
+        if takes_nobody(steps, holdings, scoped, from, nodes[*place]) {
+            taken.push(*place)?;
         }
     }
-    Ok(Items::from_vec(others))
-}
-
-// Whether a node takes over another that is a role or everything; these holdings decide that.
-fn takes_other(
-    steps: &[StepRows],
-    holdings: &[Holding<'_>],
-    scoped: &[Holding<'_>],
-    from: Node<'_>,
-    to: Node<'_>,
-) -> bool
-    ensures { (p : PolicyView)
-        → DecideOn p steps.now (node_of from.entry) holdings.now IsNobody
-        → AreScoped p steps.now (node_of from.entry) scoped.now
-        → IsTrue result ↔ (IsNobody (node_of to.entry)
-        × TakesOver p steps.now (node_of from.entry) (node_of to.entry)) }
-{
-    is_nobody(to) && takes_nobody(steps, holdings, scoped, from, to)
+    Ok(Items::from_vec(taken))
 }
 
 // Whether a node takes over a role, or everything; these holdings decide that. Where they count is

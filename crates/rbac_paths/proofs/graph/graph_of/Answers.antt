@@ -4,7 +4,7 @@ use Rattle.std.proofs.lemmas.List.Elements.{Contains-get_or}
 use Rattle.std.proofs.lemmas.Option.{same_Some}
 use Rattle.rbac_paths.specs.Deciding.{AreNumbersOf, IsAnyNode}
 use Rattle.rbac_paths.specs.Having.{HoldingView}
-use Rattle.rbac_paths.specs.Joints.{AreJoints, AreOthers, DecideOn, TakesByWords}
+use Rattle.rbac_paths.specs.Joints.{AreJoints, AreOtherPlaces, AreOthers, DecideOn, TakesByWords}
 use Rattle.rbac_paths.specs.Nodes.{NodeView, node_of}
 use Rattle.rbac_paths.specs.Told.{HasItsRole}
 use Rattle.rbac_paths.proofs.GraphOf.{graph_is, joints_more, ok_both}
@@ -27,6 +27,10 @@ deciding_holdings-requires-clause-within c =
     let are = subst (AreNumbersOf p steps x) (sym c.listed_at-own.ensures) (c.requires.numbers.each place x c.loop-place-test.true at) in
     λ k d low. numbers_within p steps x own are (get_or own k d) (Contains-get_or own k d low)
 
+pub others_taken-requires-clause-others : goal.others_taken-requires-clause-others
+others_taken-requires-clause-others c =
+    subst (AreOtherPlaces (map node_of c.args.nodes.now)) (sym c.as_slice-others.ensures.value) c.in_ok-others.ensures
+
 pub loop-place-preserved : goal.loop-place-preserved
 loop-place-preserved c =
     let p = c.args.policy.now in
@@ -39,14 +43,13 @@ loop-place-preserved c =
     let is : (y : NodeView) → slice_get ys place ≡ Some y → x ≡ y = λ y there. same_Some x y (sym at ∙ there) in
     let are = subst (AreNumbersOf p steps x) (sym c.listed_at-own.ensures) (c.requires.numbers.each place x c.loop-place-test.true at) in
     let decide = c.in_ok-holdings.ensures steps are in
-    let first = subst (λ (h : List HoldingView). DecideOn p steps x h IsAnyNode) (sym c.as_slice.ensures.value) decide in
-    let second = subst (λ (h : List HoldingView). DecideOn p steps x h IsAnyNode) (sym c.as_slice-in-loop-place.ensures.value) decide in
+    let held = subst (λ (h : List HoldingView). DecideOn p steps x h IsAnyNode) (sym c.as_slice-held.ensures.value) decide in
     let ws = c.in_ok-words_taken.field-0 in
     let js = c.in_ok-others_taken.field-0 in
     rw (c.in_ok-push.ensures.items, c.in_ok-push-2.ensures.items)
     (joints_more p steps ys place c.loop-place.takes.items c.loop-place.also.items ws js c.loop-place.invariant
-    (λ y there. subst (λ (z : NodeView). TakesByWords p steps z ws) (is y there) (c.in_ok-words_taken.ensures p first))
-    (λ y there. subst (λ (z : NodeView). AreOthers p steps z ys js) (is y there) (c.in_ok-others_taken.ensures p second)))
+    (λ y there. subst (λ (z : NodeView). TakesByWords p steps z ws) (is y there) (c.in_ok-words_taken.ensures p held))
+    (λ y there. subst (λ (z : NodeView). AreOthers p steps z ys js) (is y there) (c.in_ok-others_taken.ensures p held)))
 
 pub returns : goal.returns
 returns c =
@@ -55,6 +58,6 @@ returns c =
     let ys = map node_of c.args.nodes.now in
     let end : c.loop-place.place ≡ length ys = (let test = c.loop-place-test.false in let low = c.loop-place.auto.place-end in let e : c.loop-place.place ≡ length c.args.nodes.now = omega (arith, test, low) in e) ∙ sym (length-map c.args.nodes.now node_of) in
     let joints = subst (λ (n : ℕ). AreJoints p steps ys n c.loop-place.takes.items c.loop-place.also.items) end c.loop-place.invariant in
-    let there = rw (← c.as_slice-2.ensures.value, ← c.as_slice-4.ensures.value) at joints in
-    let had = rw (← c.as_slice-3.ensures.value, ← length-map c.args.nodes.now node_of) at c.in_ok-had_by.ensures in
-    ok_both c.joined.result _ _ _ (λ g len edges. graph_is p steps ys c.as_slice-2.result.now c.as_slice-3.result.now c.as_slice-4.result.now there had g len edges) c.joined.ensures.nodes c.joined.ensures.edges
+    let there = rw (← c.as_slice.ensures.value, ← c.as_slice-3.ensures.value) at joints in
+    let had = rw (← c.as_slice-2.ensures.value, ← length-map c.args.nodes.now node_of) at c.in_ok-had_by.ensures in
+    ok_both c.joined.result _ _ _ (λ g len edges. graph_is p steps ys c.as_slice.result.now c.as_slice-2.result.now c.as_slice-3.result.now there had g len edges) c.joined.ensures.nodes c.joined.ensures.edges

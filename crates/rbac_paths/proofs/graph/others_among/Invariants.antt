@@ -1,10 +1,10 @@
-use Rattle.std.proofs.Common.{map}
+use Rattle.std.proofs.Common.{map, take}
 use Rattle.rbac_model.specs.Policies.{PolicyView}
 use Rattle.rbac_paths.specs.Joints.{AreScoped, DecideOn, IsNobody}
 use Rattle.rbac_paths.specs.Nodes.{node_of}
-use Rattle.rbac_paths.proofs.Others.{AreOthersBelow}
+use Rattle.rbac_paths.proofs.Others.{AreOthersOf}
 use Rattle.rbac_paths.proofs.graph.others_among.Given as goal
 
 abbrev pub invariant-loop-place : goal.invariant-loop-place
 invariant-loop-place l = (p : PolicyView) → DecideOn p l.steps (node_of l.from) l.holdings IsNobody → AreScoped p l.steps (node_of l.from) l.scoped
-    → AreOthersBelow p l.steps (node_of l.from) (map node_of l.nodes) l.place l.others.items
+    → AreOthersOf p l.steps (node_of l.from) (map node_of l.nodes) (take l.place-index l.others) l.taken.items
