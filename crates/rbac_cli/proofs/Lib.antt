@@ -1,4 +1,5 @@
 pub mod HolderLineLemmas
+pub mod LinesLemmas
 pub mod Loads
 pub mod MatrixRowsLemmas
 pub mod Named
@@ -11,8 +12,10 @@ pub mod OneRun
 pub mod PageLemmas
 pub mod PathsNamed
 pub mod PlusLemmas
+pub mod PowerLines
 pub mod Printed
 pub mod RowsLeftLemmas
 pub mod Stops
 pub mod TakenBytes
+pub mod ToldByKeys
 pub mod Verdicts

@@ -41,7 +41,7 @@ use Rattle.rbac_question.specs.declared.command.Question.{Question}
 use Rattle.rbac_cli.specs.HolderLines.{AreHolderLines, joined_lines}
 use Rattle.rbac_cli.specs.Out.{Answers, IsAllowed, IsDenied, rules_text, findings_text, findings_status, wanted_meant, powers_text, paths_text, ways_text, changes_text, changes_status, line_unless}
 use Rattle.rbac_cli.specs.MatrixPage.{AreRows, AreListedRows}
-use Rattle.rbac_cli.specs.Meant.{IsScopeMeant, requested_meant}
+use Rattle.rbac_cli.specs.Meant.{IsScopeMeant, access_meant, requested_meant}
 use Rattle.rbac_cli.specs.declared.exports.Exports.{Exports}
 use Rattle.rbac_cli.specs.declared.exports.Exports.TheVariants.{Single, Pair}
 use Rattle.rbac_cli.specs.declared.outcome.Status.{Status}
@@ -276,9 +276,8 @@ module _ (powers_one : PowersOne) (paths_one : PathsOne) (ways_one : WaysOne) wh
   one_answer (Single l) (WhoCan options q) text other status ending a b = one_holders_text l options q text other status ending a b
   one_answer (Single l) (WaysTo steps q) text other status ending (t, n, meant, (xs, are, e, s)) (u, m, means, (ys, those, f, z)) =
       let same = one_meant l.catalogue.entries q t u n m meant means in
-      let asked : What → Text → AccessView = λ target namespace. record { namespace = namespace; verb = q.verb; target = target } in
-      let here = subst (λ (a : AccessView). AreWaysTo l.policy l.principals (vec_items steps) a xs) (ap₂ asked same.0 same.1) are in
-      (e ∙ ap ways_text (ways_one l.policy l.principals (vec_items steps) (asked u m) xs ys here those) ∙ sym f, s ∙ sym z)
+      let here = subst (λ (a : AccessView). AreWaysTo l.policy l.principals (vec_items steps) a xs) (ap₂ (access_meant q) same.0 same.1) are in
+      (e ∙ ap ways_text (ways_one l.policy l.principals (vec_items steps) (access_meant q u m) xs ys here those) ∙ sym f, s ∙ sym z)
   one_answer (Single l) (Rules who scope) text other status ending (xs, are, e, s) (ys, those, f, t) =
       (e ∙ ap rules_text (one_rules who scope l.policy.grants xs ys are those) ∙ sym f, s ∙ sym t)
   one_answer (Single l) (Matrix options after limit) text other status ending (u, rows, m, x, e, s) (v, others, n, y, f, t) = (

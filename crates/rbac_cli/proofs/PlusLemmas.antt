@@ -1,17 +1,16 @@
 -- What the lines of a `diff` tell of what is gained.
-use Rattle.std.proofs.Common.{◌≡◌, ◌≢◌, ◌↔◌, ℕ, List, [], ◌∷◌, ◌++◌, All, Contains, arith, ap, sym, subst, refl, ◌∙◌, map, false, codes, inl, inr}
+use Rattle.std.proofs.Common.{◌≡◌, ◌↔◌, ℕ, List, [], ◌∷◌, ◌++◌, All, Contains, arith, ap, sym, subst, refl, ◌∙◌, map, false, codes, inl, inr}
 use Rattle.std.specs.Prelude.{◌==◌, Option, Some, None}
 use Rattle.std.specs.Str.{bytes_eq}
-use Rattle.std.proofs.lemmas.Bool.{ne_eqb}
 use Rattle.std.proofs.lemmas.List.{append_assoc}
 use Rattle.std.proofs.lemmas.List.Elements.{All-nil, All-cons, All-append, All-weaker, All-head, All-tail, All-contains, All-contains_itself, Contains-append_left, Contains-append_cases}
 use Rattle.std.proofs.lemmas.List.Splits.{slice_split_at}
 use Rattle.rbac_terms.specs.Text.{Text, BeginsWith, star}
 use Rattle.rbac_terms.specs.Principals.{who_key}
 use Rattle.rbac_terms.proofs.Cases.{by_bool}
-use Rattle.rbac_text.specs.Field.{field_text, code_text, is_control}
+use Rattle.rbac_text.specs.Field.{code_text}
 use Rattle.rbac_text.specs.Row.{tab, newline, field_and_tab, binding_scope, binding_text}
-use Rattle.rbac_text.proofs.Unlike.{field_text-plain, first_is}
+use Rattle.rbac_text.proofs.Unlike.{first_is}
 use Rattle.rbac_universe.proofs.Flattened.{contains_map, map_contains}
 use Rattle.rbac_universe.proofs.OneMore.{as_any}
 use Rattle.rbac_model.specs.Policies.{PolicyView}
@@ -23,27 +22,11 @@ use Rattle.rbac_diff.specs.Lines.{sign, change_text}
 use Rattle.rbac_diff.specs.declared.change.ChangeKind.{ChangeKind}
 use Rattle.rbac_diff.specs.declared.change.ChangeKind.TheVariants.{Gained, Lost}
 use Rattle.rbac_cli.specs.Out.{changes_text}
-use Rattle.rbac_cli.specs.PlusLines.{HasPlusLine, lines_in}
+use Rattle.rbac_cli.specs.PlusLines.{HasPlusLine}
+use Rattle.rbac_cli.specs.TextLines.{lines_in}
+use Rattle.rbac_cli.proofs.LinesLemmas.{IsInline, and_tab, field_inline, fields_inline}
 
 -- ---- no newline stands in a change but at its end
-
-abbrev IsInline : ℕ → Type 0
-IsInline b = (b == newline) ≡ false
-
-not_newline : (b : ℕ) → is_control b ≡ false → b ≢ newline
-not_newline b plain e = let bad : is_control newline ≡ false = subst (λ x. is_control x ≡ false) e plain in cc
-
-field_inline : (t : Text) → All IsInline (field_text t)
-field_inline t = All-weaker (λ b. is_control b ≡ false) IsInline (λ b plain. ne_eqb b newline (not_newline b plain)) (field_text t) (field_text-plain t)
-
-tab_inline : All IsInline (tab ∷ [])
-tab_inline = All-cons IsInline tab [] refl (All-nil IsInline)
-
-and_tab : (t : Text) → All IsInline t → All IsInline (t ++ tab ∷ [])
-and_tab t all = All-append IsInline t (tab ∷ []) all tab_inline
-
-fields_inline : (t : Text) → All IsInline (field_and_tab t)
-fields_inline t = and_tab (field_text t) (field_inline t)
 
 star_inline : All IsInline (codes "*")
 star_inline = All-cons IsInline 42 [] refl (All-nil IsInline)

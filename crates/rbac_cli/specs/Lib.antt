@@ -1,3 +1,4 @@
+pub mod Agreement
 pub mod Ends
 pub mod Exports
 pub mod HolderLines
@@ -13,4 +14,5 @@ pub mod RowsLeft
 pub mod RunTexts
 pub mod ShownTokens
 pub mod TakenBack
+pub mod TextLines
 pub mod Verdicts

@@ -9,6 +9,7 @@ use Rattle.rbac_catalogue.specs.declared.lookup.Found.{Found}
 use Rattle.rbac_catalogue.specs.Lookups.{IsFound}
 use Rattle.rbac_catalogue.specs.Catalogue.{IsClusterOnly}
 use Rattle.rbac_index.specs.Requested.{RequestedView, ThisTarget, AnyName}
+use Rattle.rbac_paths.specs.Access.{AccessView}
 use Rattle.rbac_question.specs.declared.asked.AskedFor.{AskedFor}
 use Rattle.rbac_question.specs.declared.asked.AskedFor.TheVariants.{Url as ForUrl}
 use Rattle.rbac_question.specs.declared.asked.AskedFor.TheVariants.{Resource as ForResource}
@@ -44,6 +45,11 @@ IsNamespaceMeant entries q target namespace =
 abbrev pub IsMeant : List Entry → Question → What → Text → Type 0
 IsMeant entries q target namespace = IsTargetMeant entries q.asked target
     × IsNamespaceMeant entries q target namespace
+
+-- what is asked for, where the question means that target and namespace
+abbrev pub access_meant : Question → What → Text → AccessView
+access_meant q target namespace =
+    record { namespace = namespace; verb = q.verb; target = target }
 
 -- what holders are asked for: the target, or with `--any-name` the target whatever its object name
 -- (own)

@@ -36,7 +36,8 @@ use Rattle.rbac_cli.specs.HolderLines.{AreHolderLines, joined_lines}
 use Rattle.rbac_cli.specs.declared.exports.Exports.{Exports}
 use Rattle.rbac_cli.specs.declared.exports.Exports.TheVariants.{Single, Pair}
 use Rattle.rbac_cli.specs.MatrixPage.{AreListedRows, matrix_text}
-use Rattle.rbac_cli.specs.Meant.{IsMeant, IsTargetMeant, IsScopeMeant, requested_meant}
+use Rattle.rbac_cli.specs.Meant.{IsMeant, IsTargetMeant, IsScopeMeant, access_meant}
+use Rattle.rbac_cli.specs.Meant.{requested_meant}
 use Rattle.rbac_cli.specs.declared.outcome.Status.{Status}
 use Rattle.rbac_cli.specs.declared.outcome.Status.TheVariants.{Zero, One}
 
@@ -152,8 +153,8 @@ Answers (Single l) (WhoCan options q) text status =
     × (text ≡ joined_lines lines) × (status ≡ Zero))
 Answers (Single l) (WaysTo steps q) text status =
     (target : What) × (namespace : Text) × IsMeant l.catalogue.entries q target namespace
-    × ((xs : List WayView) × AreWaysTo l.policy l.principals (vec_items steps)
-    (record { namespace = namespace; verb = q.verb; target = target }) xs
+    × ((xs : List WayView)
+    × AreWaysTo l.policy l.principals (vec_items steps) (access_meant q target namespace) xs
     × (text ≡ ways_text xs) × (status ≡ Zero))
 Answers (Single l) (Rules who scope) text status =
     (xs : List RuleView) × AreEffective l.policy who scope xs

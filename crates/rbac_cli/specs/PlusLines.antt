@@ -1,12 +1,7 @@
 -- What the lines of a `diff` tell.
-use Rattle.std.specs.Prelude.{◌==◌, List, Any, codes}
-use Rattle.std.specs.List.{slice_split}
+use Rattle.std.specs.Prelude.{Any, codes}
 use Rattle.rbac_terms.specs.Text.{Text, BeginsWith}
-use Rattle.rbac_text.specs.Row.{newline}
-
--- the lines of a text, each without the newline that ends it; the last is what follows all newlines
-abbrev pub lines_in : Text → List Text
-lines_in text = slice_split (λ byte. byte == newline) text
+use Rattle.rbac_cli.specs.TextLines.{lines_in}
 
 -- a line begins with `+`
 abbrev pub HasPlusLine : Text → Type 0

@@ -1,16 +1,22 @@
 //! Laws of answers and of runs: what follows from the definitions alone. The functions do little or
 //! nothing; their contracts are the laws.
 
-ghost use Rattle.std.specs.Prelude.{◌≡◌, ◌↔◌, ◌++◌, ◌∷◌, [], List, ℕ, Result};
+ghost use Rattle.std.specs.Prelude.{◌≡◌, ◌↔◌, ◌++◌, ◌∷◌, [], Contains, List, ℕ, Result, Vec, vec_items};
+ghost use Rattle.std.specs.Global.{Global};
+ghost use Rattle.rbac_terms.specs.Principals.{Who};
 ghost use Rattle.rbac_model.specs.Policies.{PolicyView};
 ghost use Rattle.rbac_manifest.specs.Load.{IsLoaded, LoadedView};
 ghost use Rattle.rbac_document.specs.Document.{AreReadable};
 ghost use Rattle.rbac_streams.specs.Streams.{SinkView};
 ghost use Rattle.rbac_streams.specs.Taken.{Took};
 ghost use Rattle.rbac_question.specs.declared.command.Action.{Action};
-ghost use Rattle.rbac_question.specs.declared.command.Action.TheVariants.{Diff, Universe};
+ghost use Rattle.rbac_paths.specs.declared.steps.Step.{Step};
+ghost use Rattle.rbac_question.specs.declared.command.Action.TheVariants.{Diff, Paths, Powers};
+ghost use Rattle.rbac_question.specs.declared.command.Action.TheVariants.{Universe, WaysTo};
 ghost use Rattle.rbac_question.specs.declared.command.Change.{Change};
+ghost use Rattle.rbac_question.specs.declared.command.Question.{Question};
 ghost use Rattle.rbac_diff.specs.Requests.{AllowsNoMore};
+ghost use Rattle.rbac_cli.specs.Agreement.{HasNoPowerLine, LinesAgree};
 ghost use Rattle.rbac_cli.specs.Exports.{AreLoaded};
 ghost use Rattle.rbac_cli.specs.Out.{Answers};
 ghost use Rattle.rbac_cli.specs.PlusLines.{HasPlusLine};
@@ -28,7 +34,9 @@ use rbac_manifest::{
     load_faults_are_one, loaded_inputs_are_one, loaded_inputs_have_no_fault,
     resolved_policies_are_one, resolved_policies_have_no_fault,
 };
-use rbac_paths::{paths_are_one, powers_are_one, ways_are_one};
+use rbac_paths::{
+    paths_are_one, paths_begin_with_powers, powers_are_one, ways_agree_with_paths, ways_are_one,
+};
 use rbac_universe::universes_have_no_fault;
 use std::io::Write;
 
@@ -88,4 +96,30 @@ pub fn universes_are_taken_back()
 {
     documents_are_taken_back();
     once_each_is_the_same_universe();
+}
+
+/// By the same steps, `who-can --indirect` lists a user or a group that a binding or a ServiceAccount
+/// object names exactly if they are allowed what is asked, or `paths` of them, without given groups,
+/// lists a node that is; and with the fewest steps to such a node, or none if they are allowed it
+/// themselves (own).
+pub fn indirect_answers_agree_with_paths()
+    ensures { (inputs : List (List ℕ)) (l : LoadedView) (who : Who) (steps others : Vec Step Global)
+        (q : Question) (text other : List ℕ) (status ending : Status) → IsLoaded inputs l
+        → Contains l.principals who → vec_items steps ≡ vec_items others
+        → Answers (Single l) (Paths who steps) text status
+        → Answers (Single l) (WaysTo others q) other ending
+        → LinesAgree l (vec_items steps) who q text other }
+{
+    ways_agree_with_paths();
+}
+
+/// Without a line of `powers` for somebody, by their own key or that of one of their groups, `paths` of
+/// them has no line, whichever steps count (own).
+pub fn no_paths_without_powers()
+    ensures { (inputs : List (List ℕ)) (l : LoadedView) (who : Who) (steps : Vec Step Global)
+        (text other : List ℕ) (status ending : Status) → IsLoaded inputs l
+        → Answers (Single l) Powers text status → HasNoPowerLine text who
+        → Answers (Single l) (Paths who steps) other ending → other ≡ [] }
+{
+    paths_begin_with_powers();
 }

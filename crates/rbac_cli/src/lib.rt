@@ -27,7 +27,10 @@ mod universe;
 mod ways;
 mod who_can;
 
-pub use laws::{answers_are_one, plus_lines_tell_all, runs_are_one, universes_are_taken_back};
+pub use laws::{
+    answers_are_one, indirect_answers_agree_with_paths, no_paths_without_powers,
+    plus_lines_tell_all, runs_are_one, universes_are_taken_back,
+};
 pub use outcome::{RunFault, Status};
 pub use rbac_command::{UsageFault, command_of};
 pub use rbac_manifest::{At, Cause, LoadFault};
