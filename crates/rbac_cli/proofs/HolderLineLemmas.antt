@@ -1,6 +1,6 @@
 -- The lines of holders: each holder has one line, and no other.
 use Rattle.std.proofs.Common.{◌≡◌, ◌∙◌, ℕ, ◌<◌, ◌≤◌, Bool, true, false, List, [], ◌∷◌, length, get_or, drop, drop-cons, add-one, ◌+◌, Contains, ap, sym, subst, refl, arith, suc, zero, ◌⊎◌, inl, inr}
-use Rattle.std.specs.Prelude.{◌↔◌, Some, None, Any, IsTrue, slice_get}
+use Rattle.std.specs.Prelude.{◌↔◌, Option, Some, None, Any, IsTrue, MatchOption, slice_get}
 use Rattle.std.proofs.lemmas.Bool.{cases_eq}
 use Rattle.std.proofs.lemmas.Option.{same_Some, slice_get_within, slice_get-get_or, get_or_from_slice_get}
 use Rattle.rbac_terms.specs.Text.{Text}
@@ -18,7 +18,7 @@ use Rattle.rbac_model.specs.Sources.{source_of}
 use Rattle.rbac_model.proofs.BindingPlaces.{one_binding_place, of_some_binding, grant_of_rule}
 use Rattle.rbac_model.proofs.GrantNumbers.{grant_by}
 use Rattle.rbac_model.proofs.OneList.{one_rules_for}
-use Rattle.rbac_index.specs.Deciding.{AllowsOf, IsFirstAllowing}
+use Rattle.rbac_index.specs.Deciding.{AllowsOf, IsFirstAllowing, NoneAllowing}
 use Rattle.rbac_terms.specs.declared.scope.Scope.{Scope}
 use Rattle.rbac_terms.specs.declared.scope.Scope.TheVariants.{Namespace}
 use Rattle.rbac_index.specs.WhoCan.{HoldsAt, IsHolderBy, IsListedHolder, AreListedHolders}
@@ -43,7 +43,7 @@ use Rattle.rbac_cli.specs.declared.outcome.Status.TheVariants.{Zero}
 use Rattle.rbac_cli.proofs.OneHolderLines.{one_why_by}
 
 -- what is found to explain a holder makes its line
-pub shown_text : (p : PolicyView) (verb : Text) (t : RequestedView) (x : HolderView) (why : Why) (text : Text) → IsFirstShown p verb t x.binding_place x.subject_place why → IsHolderLine p true verb t x text
+shown_text : (p : PolicyView) (verb : Text) (t : RequestedView) (x : HolderView) (why : Why) (text : Text) → IsFirstShown p verb t x.binding_place x.subject_place why → IsHolderLine p true verb t x text
     → holder_why_text x.key why.binding.now (source_of why.source) why.rule_place why.subject_place ≡ text
 shown_text p verb t x why text found (k, by, e) =
     let g = found.grant in
@@ -54,6 +54,12 @@ shown_text p verb t x why text found (k, by, e) =
     ∙ ap (λ (n : ℕ). holder_why_text x.key g.binding g.rule.source g.rule.place n) found.subject
     ∙ ap (λ (v : GrantView). holder_why_text x.key v.binding v.rule.source v.rule.place x.subject_place) (one_why_by p verb t x g k (found.number, found.first, found.granted) by)
     ∙ sym e
+
+-- and something is found, or the holder would have no line
+pub told_text : (p : PolicyView) (verb : Text) (t : RequestedView) (x : HolderView) (found : Option Why) (text : Text) → MatchOption found (NoneAllowing p verb t x.binding_place) (IsFirstShown p verb t x.binding_place x.subject_place)
+    → IsHolderLine p true verb t x text → MatchOption found (text ≡ holder_text x.key x.binding) (λ why. text ≡ holder_why_text x.key why.binding.now (source_of why.source) why.rule_place why.subject_place)
+told_text p verb t x None text none (g, by, e) = absurd (none by.0 by.1.0)
+told_text p verb t x (Some why) text found line = sym (shown_text p verb t x why text found line)
 
 -- ---- whether a rule allows is decided: it's the only rule of the only binding of a cluster
 

@@ -1,9 +1,13 @@
 //! Who may do something, as an answer.
 
-ghost use Rattle.std.specs.Prelude.{◌≡◌, ◌++◌, ◌-◌, true, false, List, IfOk, OnOk, drop, length};
+ghost use Rattle.std.specs.Prelude.{◌≡◌, ◌++◌, ◌-◌, true, false, List, IfOk, MatchOption};
+ghost use Rattle.std.specs.Prelude.{OnOk, drop, length};
 ghost use Rattle.rbac_terms.specs.Text.{Text};
 ghost use Rattle.rbac_terms.specs.declared.scope.Scope.TheVariants.{Namespace};
 ghost use Rattle.rbac_model.specs.Policies.{IsPolicy};
+ghost use Rattle.rbac_model.specs.Sources.{source_of};
+ghost use Rattle.rbac_text.specs.Row.{holder_text};
+ghost use Rattle.rbac_text.specs.Why.{holder_why_text};
 ghost use Rattle.rbac_index.specs.HolderViews.{holder_shown, requested_of};
 ghost use Rattle.rbac_index.specs.WhoCan.{AreListedHolders};
 ghost use Rattle.rbac_question.specs.declared.command.Action.TheVariants.{WhoCan};
@@ -19,7 +23,7 @@ use crate::output::Output;
 use crate::stop::Stop;
 use rbac_index::{Holder, Holders, Index, IndexFault, Requested, why_held};
 use rbac_manifest::Export;
-use rbac_model::Policy;
+use rbac_model::{Policy, Why};
 use rbac_question::{HolderOptions, Question};
 use rbac_terms::{Scope, Target, Word};
 use rbac_text::{put_holder, put_holder_why};
@@ -152,19 +156,31 @@ fn put_line(
         (requested_meant asked.entry.any_name asked.entry.target.now) (holder_shown holder.entry) text
         → OnOk result (line.new.items ≡ line.old.items ++ text) }
 {
-    if !asked.why {
-        return put_holder(line, holder.principal, holder.binding);
-    }
-    let requested = requested_by(asked.any_name, asked.target);
-    match why_held(asked.policy, holder, asked.verb, requested) {
-        Some(found) => put_holder_why(
+    match reason_told(asked, holder) {
+        Some(why) => put_holder_why(
             line,
             holder.principal,
-            found.binding,
-            found.source,
-            found.rule_place,
-            found.subject_place,
+            why.binding,
+            why.source,
+            why.rule_place,
+            why.subject_place,
         ),
-        None => Ok(()),
+        None => put_holder(line, holder.principal, holder.binding),
     }
+}
+
+// Why the holder's key holds the permission by its binding, if that is to be told.
+fn reason_told<'a>(asked: HolderQuestion<'a>, holder: Holder<'_>) -> Option<Why<'a>>
+    ensures { (text : Text)
+        → IsHolderLine asked.entry.policy.now asked.entry.why asked.entry.verb.now
+        (requested_meant asked.entry.any_name asked.entry.target.now) (holder_shown holder.entry) text
+        → MatchOption result (text ≡ holder_text holder.entry.principal.now holder.entry.binding.now)
+        (λ why. text ≡ holder_why_text holder.entry.principal.now why.binding.now
+        (source_of why.source) why.rule_place why.subject_place) }
+{
+    if !asked.why {
+        return None;
+    }
+    let requested = requested_by(asked.any_name, asked.target);
+    why_held(asked.policy, holder, asked.verb, requested)
 }
