@@ -1,5 +1,5 @@
 -- What the lines of a `diff` tell of what is gained.
-use Rattle.std.proofs.Common.{◌≡◌, ◌↔◌, ℕ, List, [], ◌∷◌, ◌++◌, All, Contains, arith, ap, sym, subst, refl, ◌∙◌, map, false, codes, inl, inr}
+use Rattle.std.proofs.Common.{◌≡◌, ◌↔◌, List, [], ◌∷◌, ◌++◌, All, Contains, arith, ap, sym, subst, refl, ◌∙◌, map, codes, inl, inr}
 use Rattle.std.specs.Prelude.{◌==◌, Option, Some, None}
 use Rattle.std.specs.Str.{bytes_eq}
 use Rattle.std.proofs.lemmas.List.{append_assoc}

@@ -1,5 +1,5 @@
 -- A power has a line of its key.
-use Rattle.std.proofs.Common.{◌≡◌, ◌∙◌, ℕ, List, [], ◌∷◌, ◌++◌, All, Any, Contains, append_assoc, ap, arith, inl, inr, refl, subst, sym, zero, suc}
+use Rattle.std.proofs.Common.{◌≡◌, ◌∙◌, List, [], ◌∷◌, ◌++◌, All, Any, Contains, append_assoc, ap, arith, inl, inr, subst, sym, zero, suc}
 use Rattle.std.proofs.lemmas.List.Elements.{All-append, Contains-append_cases, Contains-append_left, Contains-append_right}
 use Rattle.rbac_terms.specs.Text.{Text, BeginsWith}
 use Rattle.rbac_terms.specs.Principals.{Who}
@@ -12,7 +12,7 @@ use Rattle.rbac_paths.specs.Lines.{power_text}
 use Rattle.rbac_paths.specs.Powers.{PowerView, power_place}
 use Rattle.rbac_paths.specs.Steps.{step_word}
 use Rattle.rbac_paths.specs.declared.steps.Step.{Step}
-use Rattle.rbac_cli.specs.Agreement.{HasNoPowerLine, HasPowerLine}
+use Rattle.rbac_cli.specs.Agreement.{HasNoPowerLine}
 use Rattle.rbac_cli.specs.Out.{powers_text}
 use Rattle.rbac_cli.specs.TextLines.{lines_in}
 use Rattle.rbac_cli.proofs.LinesLemmas.{IsInline, fields_inline, line_with, lines_append}
