@@ -10,7 +10,7 @@ use Rattle.serde_json.specs.Data.{Data, array, object, Items, Members, no_member
 use Rattle.serde_json.specs.Read.{converted, of_json, of_items, of_members}
 use Rattle.json_list.specs.List.{items_name, values_of, IsRead, IsUnread}
 use Rattle.json_list.specs.OnePass.{items_and_rest, members_in, if_ended, object_from, OthersFollow, AreTheOthers}
-use Rattle.json_list.specs.Places.{IsBefore, HasOneList}
+use Rattle.json_list.specs.Places.{IsUpToItems, HasOneList}
 use Rattle.json_list.proofs.Puts.{put_in_either_order}
 use Rattle.json_list.proofs.Walks.{Passed, none_passed, mapped, no_key, over, all_passed, no_value, with_value, one_more, next, list_begins}
 
@@ -217,7 +217,7 @@ module _ (start : Members) (first ts : List Token) (found : Members) (so_far : A
 
 module _ (old ts : List Token) (found : Members) (so_far : Adds no_members old ts found) where
   pub before_or_not : (k : List ℕ) (s : List Token) → read_key ts ≡ Some (Some k, s) → bytes_eq k items_name ≡ true → (is_list : Bool) (at : List Token) → MatchBool is_list (s ≡ Token.begin_array ∷ at) ((r : List Token) → s ≡ Token.begin_array ∷ r → ⊥)
-      → MatchBool is_list (IsBefore old found at) (¬ HasOneList old)
+      → MatchBool is_list (IsUpToItems old found at) (¬ HasOneList old)
   before_or_not k s key is_items true at begin = (
     whole_at no_members old ts found so_far k s key is_items at begin (json.items (json.value 125) (length at) at) refl,
     others_follow no_members old ts found so_far k s key is_items at begin,

@@ -9,7 +9,7 @@ use Rattle.serde_json.specs.Data.{Members, no_members}
 use Rattle.serde_json.specs.Read.{of_json, read}
 use Rattle.json_list.specs.List.{IsList}
 use Rattle.json_list.specs.OnePass.{members_in, object_from, IsReadUpTo, IsListUpTo}
-use Rattle.json_list.specs.Places.{AreRefused, HasOneList, IsBefore}
+use Rattle.json_list.specs.Places.{AreRefused, HasOneList, IsUpToItems}
 use Rattle.json_list.proofs.OnePass.{object_by}
 use Rattle.json_list.proofs.Walks.{mapped, object_begins}
 
@@ -55,7 +55,7 @@ module _ (text : List ℕ) (ts : List Token) (begin : tokens text ≡ Token.begi
   refused unread = read_is ∙ unread
 
   -- what is read up to a list
-  module _ (before : Members) (at : List Token) (are : IsBefore ts before at) where
+  module _ (before : Members) (at : List Token) (are : IsUpToItems ts before at) where
     pub read_up_to : IsReadUpTo text before at
     read_up_to = read_is ∙ are.0
 

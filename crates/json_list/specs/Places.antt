@@ -18,8 +18,8 @@ HasOneList old = (ms : json.Members) × (members_in old ≡ Some (ms, [])) × Ha
 
 -- the members up to a list under `items` are these, and the tokens `at` follow the bracket that
 -- opens the list
-abbrev pub IsBefore : List Token → Members → List Token → Type 0
-IsBefore old found at =
+abbrev pub IsUpToItems : List Token → Members → List Token → Type 0
+IsUpToItems old found at =
     (object_from no_members old
     ≡ option_and_then (λ p. object_from (put items_name (array p.0) found) p.1)
     (items_and_rest at))

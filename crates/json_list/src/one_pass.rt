@@ -13,7 +13,7 @@ ghost use Rattle.json_list.specs.Lean.{lean};
 ghost use Rattle.json_list.specs.List.{IsList, items_name, with_items};
 ghost use Rattle.json_list.specs.OnePass.{items_and_rest, object_from, OthersFollow, IsReadUpTo};
 ghost use Rattle.json_list.specs.OnePass.{AreTheOthers, IsListUpTo};
-ghost use Rattle.json_list.specs.Places.{IsBefore, AreRefused, HasOneList};
+ghost use Rattle.json_list.specs.Places.{IsUpToItems, AreRefused, HasOneList};
 ghost use Rattle.json_list.specs.declared.fault.ReadFault.TheVariants.{Refused};
 
 use crate::fault::ReadFault;
@@ -162,7 +162,7 @@ fn read_before(
 ) -> Result<bool, ReadFault>
     requires { members_view members.old.entries ≡ no_members }
     ensures before { IfOk result (λ found. MatchBool found
-        (IsBefore reader.old (members_view members.new.entries) reader.new)
+        (IsUpToItems reader.old (members_view members.new.entries) reader.new)
         (¬ HasOneList reader.old)) }
     ensures refused { result ≡ Err Refused → AreRefused reader.old }
 {

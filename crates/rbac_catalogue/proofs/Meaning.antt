@@ -9,7 +9,7 @@ use Rattle.rbac_terms.proofs.Texts.{IsCutAtFirst-one, IsCutAtFirst-prefix, IsCut
 use Rattle.rbac_terms.proofs.Cases.{by_ordering}
 use Rattle.rbac_catalogue.specs.declared.entry.Entry.{Entry}
 use Rattle.rbac_catalogue.specs.declared.lookup.Found.{Found}
-use Rattle.rbac_catalogue.specs.Lookups.{dot, resource_cmp, IsNamedIn, IsLeastOf, IsMeantIn, IsWordAndGroup, IsFound, IsOnlyFound}
+use Rattle.rbac_catalogue.specs.Lookups.{dot, resource_cmp, IsNamedInGroup, IsLeastOf, IsMeantIn, IsWordAndGroup, IsFound, IsOnlyFound}
 use Rattle.rbac_catalogue.proofs.Least.{resource_cmp_total}
 
 exact_resources : (f g : Found) → resource_cmp f g ≡ Equal → f ≡ g
@@ -32,9 +32,9 @@ module _ (entries : List Entry) where
   some_named P f l = let (k, e, lt, at, here) = l.listed in (k, e, lt, at, here.0)
 
   meant_one : (group : Option Text) (word : Text) (f g : Found) → IsMeantIn entries group word f → IsMeantIn entries group word g → f ≡ g
-  meant_one group word f g (inl l) (inl m) = least_one (IsNamedIn group word) f g l m
-  meant_one group word f g (inl l) (inr m) = absurd (m.0 (some_named (IsNamedIn group word) f l))
-  meant_one group word f g (inr l) (inl m) = absurd (l.0 (some_named (IsNamedIn group word) g m))
+  meant_one group word f g (inl l) (inl m) = least_one (IsNamedInGroup group word) f g l m
+  meant_one group word f g (inl l) (inr m) = absurd (m.0 (some_named (IsNamedInGroup group word) f l))
+  meant_one group word f g (inr l) (inl m) = absurd (l.0 (some_named (IsNamedInGroup group word) g m))
   meant_one group word f g (inr l) (inr m) = l.1 ∙ sym m.1
 
   same_parts : (typed : Text) (v w : Text) (g h : Option Text) → IsWordAndGroup typed v g → IsWordAndGroup typed w h → (v ≡ w) × (g ≡ h)

@@ -18,13 +18,13 @@ abbrev pub IsListed : List Entry → Text → Text → Type 0
 IsListed entries group text = Any (IsAbout group text) entries
 
 -- a resource is namespaced if any of its versions is (own)
-abbrev pub IsNamespaced : List Entry → Text → Text → Type 0
-IsNamespaced entries group text = Any (λ e. IsAbout group text e × IsTrue e.namespaced) entries
+abbrev pub HasNamespacedVersion : List Entry → Text → Text → Type 0
+HasNamespacedVersion entries group text = Any (λ e. IsAbout group text e × IsTrue e.namespaced) entries
 
 -- a resource that is listed, and not namespaced
 abbrev pub IsClusterScoped : List Entry → Text → Text → Type 0
 IsClusterScoped entries group text =
-    IsListed entries group text × (¬ IsNamespaced entries group text)
+    IsListed entries group text × (¬ HasNamespacedVersion entries group text)
 
 -- a resource text that isn't listed is taken as the part before its first slash; if neither is
 -- listed, it isn't cluster-only (own)

@@ -27,9 +27,9 @@ abbrev pub IsNamed : Text → Entry → Type 0
 IsNamed word e = (word ≢ []) × HasWords e × IsCalled word e
 
 -- a word names the entry in that group, or in any if none is given
-abbrev pub IsNamedIn : Option Text → Text → Entry → Type 0
-IsNamedIn None word e = IsNamed word e
-IsNamedIn (Some group) word e = (e.group ≡ group) × IsNamed word e
+abbrev pub IsNamedInGroup : Option Text → Text → Entry → Type 0
+IsNamedInGroup None word e = IsNamed word e
+IsNamedInGroup (Some group) word e = (e.group ≡ group) × IsNamed word e
 
 -- the resource that an entry is about; entries of several versions may be about the same one
 abbrev pub resource_of : Entry → Found
@@ -48,8 +48,8 @@ pub record IsLeastOf (P : Entry → Type 0) (entries : List Entry) (found : Foun
 -- none, it is taken as written, in that group or in the core group, the empty one (own)
 abbrev pub IsMeantIn : List Entry → Option Text → Text → Found → Type 0
 IsMeantIn entries group word found =
-    IsLeastOf (IsNamedIn group word) entries found
-    ⊎ ((¬ Any (IsNamedIn group word) entries)
+    IsLeastOf (IsNamedInGroup group word) entries found
+    ⊎ ((¬ Any (IsNamedInGroup group word) entries)
     × (found ≡ record { group = unwrap_or group []; resource = word }))
 
 -- a type word is a word alone, without a dot, or a word before its first dot and a group after it

@@ -3,7 +3,7 @@
 ghost use Rattle.std.specs.Prelude.{◌≡◌, IsTrue, ◌↔◌, IfOk, MatchOption, Any, ⊤};
 ghost use Rattle.std.specs.Option.{option_copied};
 ghost use Rattle.std.specs.declared.cmp.Ordering.TheVariants.{Less};
-ghost use Rattle.rbac_catalogue.specs.Lookups.{IsCalled, HasWords, IsNamed, IsNamedIn, resource_of};
+ghost use Rattle.rbac_catalogue.specs.Lookups.{IsCalled, HasWords, IsNamed, IsNamedInGroup, resource_of};
 ghost use Rattle.rbac_catalogue.specs.Lookups.{resource_cmp, IsLeastOf, IsMeantIn, IsFound};
 
 use crate::entry::Entry;
@@ -47,7 +47,7 @@ fn is_named(word: &[u8], entry: &Entry) -> bool
 
 // Whether the word names the entry in that group, or in any if none is given.
 fn is_named_in(group: Option<&[u8]>, word: &[u8], entry: &Entry) -> bool
-    ensures { IsTrue result ↔ IsNamedIn (option_copied group.entry) word.now entry.now }
+    ensures { IsTrue result ↔ IsNamedInGroup (option_copied group.entry) word.now entry.now }
 {
     match group {
         None => is_named(word, entry),
@@ -75,7 +75,7 @@ fn comes_before(entry: &Entry, least: Option<&Entry>) -> bool
 
 // The least of the entries that the word names in that group, or in any if none is given.
 fn least_named<'a>(entries: &'a [Entry], group: Option<&[u8]>, word: &[u8]) -> Option<&'a Entry>
-    ensures { let P = IsNamedIn (option_copied group.entry) word.now in
+    ensures { let P = IsNamedInGroup (option_copied group.entry) word.now in
         MatchOption (option_copied result) (¬ Any P entries.now)
         (λ e. IsLeastOf P entries.now (resource_of e)) }
 {

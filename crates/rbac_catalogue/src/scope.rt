@@ -1,7 +1,7 @@
 //! Which resources are outside all namespaces.
 
 ghost use Rattle.std.specs.Prelude.{IsTrue, ◌↔◌};
-ghost use Rattle.rbac_catalogue.specs.Catalogue.{IsAbout, IsListed, IsNamespaced, IsClusterScoped};
+ghost use Rattle.rbac_catalogue.specs.Catalogue.{IsAbout, IsListed, HasNamespacedVersion, IsClusterScoped};
 ghost use Rattle.rbac_catalogue.specs.Catalogue.{IsClusterOnly};
 
 use crate::entry::Entry;
@@ -21,7 +21,7 @@ fn is_listed(entries: &[Entry], group: &[u8], text: &[u8]) -> bool
 }
 
 fn is_namespaced(entries: &[Entry], group: &[u8], text: &[u8]) -> bool
-    ensures { IsTrue result ↔ IsNamespaced entries.now group.now text.now }
+    ensures { IsTrue result ↔ HasNamespacedVersion entries.now group.now text.now }
 {
     entries
         .iter()

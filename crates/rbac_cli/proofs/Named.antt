@@ -7,7 +7,7 @@ use Rattle.rbac_terms.specs.Targets.{IsProper, Resource}
 use Rattle.rbac_question.specs.Asked.{IsTypeWord}
 use Rattle.rbac_catalogue.specs.declared.entry.Entry.{Entry}
 use Rattle.rbac_catalogue.specs.declared.lookup.Found.{Found}
-use Rattle.rbac_catalogue.specs.Lookups.{dot, HasWords, IsNamedIn, IsMeantIn, IsWordAndGroup, IsFound}
+use Rattle.rbac_catalogue.specs.Lookups.{dot, HasWords, IsNamedInGroup, IsMeantIn, IsWordAndGroup, IsFound}
 use Rattle.rbac_cli.specs.Meant.{with_subresource}
 
 -- a word, without a slash
@@ -22,7 +22,7 @@ word_plain typed word (Some group) t h = (
   λ w. t.2 (subst (λ x. Contains x slash) (sym h.0) (Contains-append_left word (dot ∷ group) slash w)),
 )
 
-has_words : (group : Option Text) (word : Text) (e : Entry) → IsNamedIn group word e → HasWords e
+has_words : (group : Option Text) (word : Text) (e : Entry) → IsNamedInGroup group word e → HasWords e
 has_words None word e h = h.1
 has_words (Some group) word e h = h.1.1
 

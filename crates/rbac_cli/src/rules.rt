@@ -36,11 +36,11 @@ pub(crate) fn print_rules<W: Write + Drop>(
 impl Lines for EffectiveRules<'_> {
     ghost use Rattle.std.specs.Prelude.{List, length};
     ghost use Rattle.rbac_rules.specs.Effective.{RuleView};
-    ghost use Rattle.rbac_rules.specs.Left.{AreLeft};
+    ghost use Rattle.rbac_rules.specs.Left.{AreRulesLeft};
     ghost use Rattle.rbac_cli.specs.Out.{rules_text};
 
     ghost are_left = { λ rules text.
-        (xs : List RuleView) × AreLeft rules xs × (text ≡ rules_text xs) };
+        (xs : List RuleView) × AreRulesLeft rules xs × (text ≡ rules_text xs) };
 
     ghost most_left = { λ rules. length rules.grants };
 

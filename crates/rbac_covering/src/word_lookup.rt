@@ -2,7 +2,7 @@
 
 ghost use Rattle.std.specs.Prelude.{◌≡◌, ◌↔◌, Any, Contains, IfOk, IfSome, IsTrue};
 ghost use Rattle.rbac_terms.specs.Matching.{WordMatches};
-ghost use Rattle.rbac_terms.specs.Sorted.{AreInOrder};
+ghost use Rattle.rbac_terms.specs.Sorted.{IsSortedCopy};
 
 use rbac_terms::{Word, Words, is_among, sorted_copy};
 use std::alloc::AllocError;
@@ -25,13 +25,13 @@ pub struct WordLookup<'a> {
 
 impl<'a> Model for WordLookup<'a> {
     ghost use Rattle.std.specs.Prelude.{◌↔◌, IfSome, IsTrue, Contains, codes, ℕ, List};
-    ghost use Rattle.rbac_terms.specs.Sorted.{AreInOrder};
+    ghost use Rattle.rbac_terms.specs.Sorted.{IsSortedCopy};
 
     ghost Value = { List (List ℕ) };
 
     ghost view = { λ w. w.words.now };
 
-    ghost invariant = { λ w. IfSome w.ordered (λ o. AreInOrder w.words.now o.items)
+    ghost invariant = { λ w. IfSome w.ordered (λ o. IsSortedCopy w.words.now o.items)
         × (IsTrue w.has_star ↔ Contains w.words.now (codes "*")) };
 }
 
@@ -68,7 +68,7 @@ impl<'a> WordLookup<'a> {
 
 // The words in byte order; `None` where they are few.
 fn ordered_if_many(words: &Words) -> Result<Option<Vec<Word>>, AllocError>
-    ensures { IfOk result (λ o. IfSome o (λ v. AreInOrder words.now v.items)) }
+    ensures { IfOk result (λ o. IfSome o (λ v. IsSortedCopy words.now v.items)) }
 {
     if words.as_slice().len() < MANY {
         return Ok(None);

@@ -4,7 +4,7 @@ use Rattle.std.specs.Prelude.{Option, Some, None}
 use Rattle.std.proofs.lemmas.Option.{same_Some, slice_get_within, get_or_from_slice_get, slice_get-get_or}
 use Rattle.rbac_terms.specs.Granting.{subject_principal}
 use Rattle.rbac_terms.specs.Text.{Text}
-use Rattle.rbac_terms.specs.Principals.{Who, AsUser, AsMember, name_of, given_of}
+use Rattle.rbac_terms.specs.Principals.{Who, AsUser, AsMember, who_name, given_of}
 use Rattle.rbac_terms.specs.declared.granting.Binding.{Binding}
 use Rattle.rbac_terms.specs.declared.matching.Rule.{Rule}
 use Rattle.rbac_model.specs.Policies.{PolicyView, IsPolicy, GrantView, binding_name}
@@ -26,13 +26,13 @@ same_texts (x ∷ xs) (y ∷ ys) = elim (both (same_text x y) (same_texts xs ys)
 same_who : (a b : Who) → Decided (a ≡ b)
 same_who (AsUser n g) (AsUser m h) = elim (both (same_text n m) (same_texts g h)) [
   | inl e ↦ inl (ap₂ (λ (a : Text) (l : List Text). AsUser a l) e.0 e.1)
-  | inr ne ↦ inr (λ e. ne (ap name_of e, ap given_of e))
+  | inr ne ↦ inr (λ e. ne (ap who_name e, ap given_of e))
 ]
 same_who (AsUser n g) (AsMember m) = inr (λ e. cc)
 same_who (AsMember n) (AsUser m h) = inr (λ e. cc)
 same_who (AsMember n) (AsMember m) = elim (same_text n m) [
   | inl e ↦ inl (ap (λ (a : Text). AsMember a) e)
-  | inr ne ↦ inr (λ e. ne (ap name_of e))
+  | inr ne ↦ inr (λ e. ne (ap who_name e))
 ]
 
 pub same_option : {X : Type 0} → ((x y : X) → Decided (x ≡ y)) → (a b : Option X) → Decided (a ≡ b)

@@ -10,21 +10,9 @@ ghost use Rattle.rbac_diff.specs.StandIns.{AddsRulesIn, AddsRules, AreStandInRul
 
 use rbac_model::Policy;
 use rbac_subjects::SubjectIndex;
-use rbac_terms::{Principal, Rule, Word, Words};
+use rbac_terms::{ANONYMOUS, AUTHENTICATED, Principal, Rule, UNAUTHENTICATED, Word, Words};
 use std::alloc::{AllocError, Global};
 use std::marker::Model;
-
-// The prefix of the key of a member of a group.
-const MEMBER: &[u8] = b"g:";
-
-// The group of the users who have signed in.
-const AUTHENTICATED: &[u8] = b"system:authenticated";
-
-// The group of the anonymous user alone.
-const UNAUTHENTICATED: &[u8] = b"system:unauthenticated";
-
-// The name of a user without credentials.
-const ANONYMOUS: &[u8] = b"system:anonymous";
 
 // A policy, with the principals that stand in for members of groups.
 #[derive(Drop)]
@@ -93,7 +81,7 @@ impl<'p> AskedPolicy<'p> {
         ensures { given_of principal.now ≡ []
             → one_or_two result.0.now (option_copied result.1) ≡ stand_ins principal.now }
     {
-        let Some(group) = group_of(principal) else {
+        let Some(group) = principal.member_of() else {
             return (principal, None);
         };
         if group == UNAUTHENTICATED {
@@ -134,14 +122,6 @@ fn anonymous(alloc: Global) -> Result<Principal, AllocError>
         Ok(user) => Ok(user),
         Err(_) => Err(AllocError),
     }
-}
-
-// The group whose member the principal is; a user is the member of none.
-fn group_of(principal: &Principal) -> Option<&[u8]>
-    ensures { MatchOption result ((group : Text) → ¬ (principal.now ≡ AsMember group))
-        (λ group. principal.now ≡ AsMember group.now) }
-{
-    principal.key().as_bytes().strip_prefix(MEMBER)
 }
 
 // Adds the rules of the grants whose bindings name the principal and are live in that namespace for

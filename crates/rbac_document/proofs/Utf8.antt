@@ -7,7 +7,7 @@ use Rattle.std.proofs.lemmas.Str.{IsUtf8-append, IsUtf8-nil}
 use Rattle.json.specs.Print.{quoted}
 use Rattle.json.proofs.Printed.Utf8.{are_ascii, IsUtf8-are_ascii, IsUtf8-quoted}
 use Rattle.rbac_terms.specs.Text.{Text}
-use Rattle.rbac_terms.specs.Principals.{Who, name_of, given_of}
+use Rattle.rbac_terms.specs.Principals.{Who, who_name, given_of}
 use Rattle.rbac_universe.specs.declared.lists.ListedResource.{ListedResource}
 use Rattle.rbac_universe.specs.declared.lists.UniverseLists.{UniverseLists}
 use Rattle.rbac_document.specs.Document.{IsReadable, AreReadable, list_text, groups_text, is_user, before_name, principal_text, rest_of_resource, resource_text, member_text, document_text}
@@ -45,9 +45,9 @@ utf8_before false = IsUtf8-are_ascii (before_name false) refl
 
 utf8_principal : (who : Who) → IsReadable who → IsUtf8 (principal_text who)
 utf8_principal who can =
-    IsUtf8-append (before_name (is_user who) ++ quoted (name_of who) ++ groups_text (given_of who)) (codes "}")
-    (IsUtf8-append (before_name (is_user who) ++ quoted (name_of who)) _
-    (IsUtf8-append (before_name (is_user who)) _ (utf8_before (is_user who)) (IsUtf8-quoted (name_of who) can.name)) (utf8_groups (given_of who) can.given))
+    IsUtf8-append (before_name (is_user who) ++ quoted (who_name who) ++ groups_text (given_of who)) (codes "}")
+    (IsUtf8-append (before_name (is_user who) ++ quoted (who_name who)) _
+    (IsUtf8-append (before_name (is_user who)) _ (utf8_before (is_user who)) (IsUtf8-quoted (who_name who) can.name)) (utf8_groups (given_of who) can.given))
     (IsUtf8-are_ascii (codes "}") refl)
 
 utf8_rest : (b : Bool) → IsUtf8 (rest_of_resource b)

@@ -9,7 +9,7 @@ use Rattle.serde_json.specs.Data.{Data, string, array, object, boolean, no_membe
 use Rattle.serde_json.specs.Read.{of_json, of_items}
 use Rattle.serde_json.specs.View.{items_of}
 use Rattle.rbac_terms.specs.Text.{Text}
-use Rattle.rbac_terms.specs.Principals.{Who, AsUser, AsMember, name_of}
+use Rattle.rbac_terms.specs.Principals.{Who, AsUser, AsMember, who_name}
 use Rattle.rbac_universe.specs.declared.lists.ListedResource.{ListedResource}
 use Rattle.rbac_universe.specs.declared.lists.UniverseLists.{UniverseLists}
 use Rattle.rbac_lists.specs.declared.given_lists.GivenLists.{GivenLists}
@@ -92,7 +92,7 @@ words_given words = rw (elements_of (map string words), are_texts words, texts_o
 
 -- who has a name
 abbrev pub IsNamed : Who → Type 0
-IsNamed who = name_of who ≢ []
+IsNamed who = who_name who ≢ []
 
 not_empty : (b : ℕ) (bs : Text) → (length (b ∷ bs) == 0) ≡ false
 not_empty b bs = ne_eqb _ _ (λ e. omega (arith, e))

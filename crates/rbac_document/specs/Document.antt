@@ -4,7 +4,7 @@ use Rattle.std.specs.List.{join_by}
 use Rattle.std.specs.Str.{IsUtf8}
 use Rattle.json.specs.Print.{quoted}
 use Rattle.rbac_terms.specs.Text.{Text}
-use Rattle.rbac_terms.specs.Principals.{Who, AsUser, AsMember, name_of, given_of}
+use Rattle.rbac_terms.specs.Principals.{Who, AsUser, AsMember, who_name, given_of}
 use Rattle.rbac_model.specs.Lists.{by_name, IsOnceEach}
 use Rattle.rbac_universe.specs.declared.lists.ListedResource.{ListedResource}
 use Rattle.rbac_universe.specs.declared.lists.UniverseLists.{UniverseLists}
@@ -44,7 +44,7 @@ before_name false = codes "{\"group\": "
 -- a principal as JSON
 abbrev pub principal_text : Who → Text
 principal_text who =
-    before_name (is_user who) ++ quoted (name_of who) ++ groups_text (given_of who) ++ codes "}"
+    before_name (is_user who) ++ quoted (who_name who) ++ groups_text (given_of who) ++ codes "}"
 
 -- what stands after the text of a resource
 abbrev pub rest_of_resource : Bool → Text
@@ -80,8 +80,8 @@ IsDocument lists text =
 
 -- a principal that JSON can carry: its name isn't empty, and its texts are UTF-8 (RFC 8259)
 pub record IsReadable (who : Who) : Type 0 where
-  pub named : name_of who ≢ []
-  pub name : IsUtf8 (name_of who)
+  pub named : who_name who ≢ []
+  pub name : IsUtf8 (who_name who)
   pub given : All IsUtf8 (given_of who)
 
 -- lists that JSON can carry; the words of an export come from JSON, so they are UTF-8

@@ -16,7 +16,7 @@ use Rattle.rbac_model.specs.Lists.{by_name, IsAscendingBy}
 use Rattle.rbac_model.specs.Places.{IsReachedAt, source_at}
 use Rattle.rbac_model.specs.declared.places.RolePlace.{RolePlace}
 use Rattle.rbac_model.specs.declared.places.RolePlace.TheVariants.{RoleAt, ClusterRoleAt}
-use Rattle.rbac_model.specs.Policies.{Held, IsHeld, Source, InRole, InClusterRole, IsPlain, IsRefTo, Reaches, Step, IsPath, Gathers}
+use Rattle.rbac_model.specs.Policies.{Held, IsHeld, Source, InRole, InClusterRole, IsPlain, IsRefTo, Reaches, Step, IsSelectionPath, Gathers}
 use Rattle.rbac_model.proofs.NamePlaces.{equal_from_name}
 use Rattle.rbac_lint.specs.Roles.{roles_in}
 use Rattle.rbac_lint.specs.NamedRoles.{AreRoleFlags, AreNamed, AreGatherers, AreFlagsWith, IsReachedByNamedAt}
@@ -151,7 +151,7 @@ named_there h c n =
 step_gathers : (h : Held) (c s : ClusterRole) → Step h c s → IsPlain c → ⊥
 step_gathers h c s p plain = let P : Option (List Selector) → Type 0 = λ o. Gathers o s in subst P plain p.2
 
-reaching_gathers : (h : Held) (c : ClusterRole) (between : List ClusterRole) (s : ClusterRole) → IsPath h c between s → IsPlain c → ⊥
+reaching_gathers : (h : Held) (c : ClusterRole) (between : List ClusterRole) (s : ClusterRole) → IsSelectionPath h c between s → IsPlain c → ⊥
 reaching_gathers h c [] s p plain = step_gathers h c s p plain
 reaching_gathers h c (m ∷ ms) s p plain = step_gathers h c m p.0 plain
 

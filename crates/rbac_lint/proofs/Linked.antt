@@ -21,7 +21,7 @@ use Rattle.std.proofs.lemmas.Option.{slice_get_within, slice_get-get_or, slice_g
 use Rattle.rbac_terms.specs.Text.{Text, text_cmp, BeginsWith}
 use Rattle.rbac_lint.specs.declared.prefixes.Prefix.{Prefix}
 use Rattle.rbac_lint.specs.RulesByWord.{PlaceLists, places_under, IsAscending, AreAscending}
-use Rattle.rbac_lint.specs.Prefixes.{entry_of, prefix, IsOnWay, LinksTo, IsLinkedAt, AreLinked, ArePrefixes, PutsPrefix}
+use Rattle.rbac_lint.specs.Prefixes.{entry_of, prefix, IsOnWay, LinksTo, IsLinkedAt, AreLinkedPrefixes, ArePrefixes, PutsPrefix}
 
 -- ---- the order of texts
 
@@ -89,7 +89,7 @@ steps_below : (way : Option ℕ) (p : ℕ) → IfSome way (λ i. i < p) → step
 steps_below None p lt = omega arith
 steps_below (Some i) p lt = omega (arith, lt)
 
-pub steps_fall : (prefixes : List Prefix) (p : ℕ) (f : Prefix) (way : Option ℕ) → AreLinked prefixes → slice_get prefixes p ≡ Some f → way ≡ Some p → steps_left f.shorter < steps_left way
+pub steps_fall : (prefixes : List Prefix) (p : ℕ) (f : Prefix) (way : Option ℕ) → AreLinkedPrefixes prefixes → slice_get prefixes p ≡ Some f → way ≡ Some p → steps_left f.shorter < steps_left way
 steps_fall prefixes p f way linked here is = subst (λ (o : Option ℕ). steps_left f.shorter < steps_left o) (sym is) (steps_below f.shorter p (linked p f here).1)
 
 pub place_within : (way : Option ℕ) (p count : ℕ) → way ≡ Some p → IfSome way (λ i. i < count) → p < count
@@ -99,7 +99,7 @@ widen : (way : Option ℕ) (p count : ℕ) → p < count → IfSome way (λ i. i
 widen None p count lt w = tt
 widen (Some i) p count lt w = omega (arith, lt, w)
 
-pub shorter_within : (prefixes : List Prefix) (p : ℕ) (f : Prefix) → AreLinked prefixes → slice_get prefixes p ≡ Some f → IfSome f.shorter (λ i. i < length prefixes)
+pub shorter_within : (prefixes : List Prefix) (p : ℕ) (f : Prefix) → AreLinkedPrefixes prefixes → slice_get prefixes p ≡ Some f → IfSome f.shorter (λ i. i < length prefixes)
 shorter_within prefixes p f linked here = widen f.shorter p (length prefixes) (slice_get_within prefixes p f here) (linked p f here).1
 
 -- the last that isn't after the text leads to all with which it begins
@@ -111,7 +111,7 @@ leads_from prefixes p f count text are here up last j g lt at begins = elim (cas
 ]
 
 -- one on the way is that which stands here, or is on the way from there
-pub here_or_on : (prefixes : List Prefix) (p : ℕ) (f : Prefix) (j : ℕ) (g : Prefix) → AreLinked prefixes → slice_get prefixes p ≡ Some f → slice_get prefixes j ≡ Some g
+pub here_or_on : (prefixes : List Prefix) (p : ℕ) (f : Prefix) (j : ℕ) (g : Prefix) → AreLinkedPrefixes prefixes → slice_get prefixes p ≡ Some f → slice_get prefixes j ≡ Some g
     → IsOnWay prefixes (Some p) j g.text → (g ≡ f) ⊎ IsOnWay prefixes f.shorter j g.text
 here_or_on prefixes p f j g linked here at way =
     let same : way.0 ≡ f = same_Some way.0 f (sym way.1 ∙ here) in
@@ -122,7 +122,7 @@ here_or_on prefixes p f j g linked here at way =
           inl (same_Some g f (sym at ∙ ap (slice_get prefixes) one ∙ here))
     ]
 
-pub leads_on : (prefixes : List Prefix) (p : ℕ) (f : Prefix) (count : ℕ) (text : Text) → AreLinked prefixes → slice_get prefixes p ≡ Some f → (BeginsWith text f.text → ⊥)
+pub leads_on : (prefixes : List Prefix) (p : ℕ) (f : Prefix) (count : ℕ) (text : Text) → AreLinkedPrefixes prefixes → slice_get prefixes p ≡ Some f → (BeginsWith text f.text → ⊥)
     → LinksTo prefixes count text (Some p) → LinksTo prefixes count text f.shorter
 leads_on prefixes p f count text linked here other leads j g lt at begins = elim (here_or_on prefixes p f j g linked here at (leads j g lt at begins)) [
   | inl e ↦ absurd (other (subst (λ (x : Prefix). BeginsWith text x.text) e begins))

@@ -21,7 +21,7 @@ use Rattle.rbac_terms.specs.declared.granting.ClusterRole.{ClusterRole}
 use Rattle.rbac_terms.proofs.Cases.{either_true, true_either}
 use Rattle.rbac_terms.proofs.Orderings.{equal_from_test, both_equal}
 use Rattle.rbac_model.specs.Places.{IsReachedAt}
-use Rattle.rbac_model.specs.Policies.{Held, IsPlain, Reaches, IsPath, Step}
+use Rattle.rbac_model.specs.Policies.{Held, IsPlain, Reaches, IsSelectionPath, Step}
 use Rattle.rbac_lint.specs.Findings.{IsGathered, IsStaleRole, HasSameRules}
 use Rattle.rbac_lint.specs.Gathering.{AreGatheredBy, rules_at}
 
@@ -69,7 +69,7 @@ gathered_same h place i s rules at not was = λ r here rule. (
 step_there : (h : Held) (r s : ClusterRole) → Step h r s → (k : ℕ) × (slice_get h.cluster_roles k ≡ Some s)
 step_there h r s p = (p.0.0, slice_get-get_or h.cluster_roles p.0.0 s p.0.1 ∙ ap (λ (v : ClusterRole). Some v) p.0.2)
 
-path_there : (h : Held) (r : ClusterRole) (between : List ClusterRole) (s : ClusterRole) → IsPath h r between s → (k : ℕ) × (slice_get h.cluster_roles k ≡ Some s)
+path_there : (h : Held) (r : ClusterRole) (between : List ClusterRole) (s : ClusterRole) → IsSelectionPath h r between s → (k : ℕ) × (slice_get h.cluster_roles k ≡ Some s)
 path_there h r [] s p = step_there h r s p
 path_there h r (m ∷ ms) s p = path_there h m ms s p.1
 

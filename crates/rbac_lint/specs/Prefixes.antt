@@ -29,14 +29,14 @@ LinksTo prefixes count text way = (j : ℕ) (g : Prefix) → j < count → slice
 abbrev pub IsLinkedAt : List Prefix → ℕ → Prefix → Type 0
 IsLinkedAt prefixes i f = LinksTo prefixes i f.text f.shorter × IfSome f.shorter (λ p. p < i)
 
-abbrev pub AreLinked : List Prefix → Type 0
-AreLinked prefixes = (i : ℕ) (f : Prefix) → slice_get prefixes i ≡ Some f → IsLinkedAt prefixes i f
+abbrev pub AreLinkedPrefixes : List Prefix → Type 0
+AreLinkedPrefixes prefixes = (i : ℕ) (f : Prefix) → slice_get prefixes i ≡ Some f → IsLinkedAt prefixes i f
 
 -- prefixes ascend, and are linked
 pub record ArePrefixes (prefixes : List Prefix) : Type 0 where
   pub order : (i j : ℕ) (f g : Prefix) → i ≤ j → slice_get prefixes i ≡ Some f
       → slice_get prefixes j ≡ Some g → is_le (text_cmp f.text g.text) ≡ true
-  pub linked : AreLinked prefixes
+  pub linked : AreLinkedPrefixes prefixes
 
 -- these are the entries of a map, whose words ascend
 abbrev pub AreEntriesOf : BTreeMap Text (List ℕ) → List Prefix → Type 0

@@ -8,7 +8,7 @@ ghost use Rattle.std.specs.Prelude.{OnOk, IsTrue};
 ghost use Rattle.std.specs.Ordering.{is_le};
 ghost use Rattle.rbac_terms.specs.Text.{text_cmp, BeginsWith};
 ghost use Rattle.rbac_lint.specs.declared.prefixes.Prefix.{Prefix as PrefixView};
-ghost use Rattle.rbac_lint.specs.Prefixes.{AreEntriesOf, LinksTo, AreLinked, ArePrefixes};
+ghost use Rattle.rbac_lint.specs.Prefixes.{AreEntriesOf, LinksTo, AreLinkedPrefixes, ArePrefixes};
 ghost use Rattle.rbac_lint.specs.Prefixes.{PutsPrefix};
 
 use crate::rules_by_word::Places;
@@ -59,7 +59,7 @@ fn push_prefix(prefixes: &mut Vec<Prefix>, text: Word, places: Places) -> Result
 
 // The first prefix, on the way from this one, that the text begins with.
 fn longest_from(prefixes: &[Prefix], from: Option<usize>, text: &[u8]) -> Option<usize>
-    requires linked { AreLinked prefixes.now }
+    requires linked { AreLinkedPrefixes prefixes.now }
     requires leads { LinksTo prefixes.now (length prefixes.now) text.now from }
     requires within { IfSome from (λ i. i < length prefixes.now) }
     ensures leads { LinksTo prefixes.now (length prefixes.now) text.now result }

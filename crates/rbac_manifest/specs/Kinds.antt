@@ -87,13 +87,13 @@ kinds_read =
     ∷ []
 
 -- whether this is an API resource list, whose version may be missing (own)
-abbrev pub is_api_list : Kind → Bool
-is_api_list kinds.ApiList = true
-is_api_list _ = false
+abbrev pub needs_no_version : Kind → Bool
+needs_no_version kinds.ApiList = true
+needs_no_version _ = false
 
 -- whether a row is of this kind and needs a version
 abbrev pub asks_version : List ℕ → Reading → Bool
-asks_version kind row = bytes_eq kind row.kind && not (is_api_list row.means)
+asks_version kind row = bytes_eq kind row.kind && not (needs_no_version row.means)
 
 -- the kinds that need a version: those that are read, except API resource lists (own)
 unfoldable pub needs_version : List ℕ → Bool

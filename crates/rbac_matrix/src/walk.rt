@@ -3,6 +3,7 @@
 ghost use Rattle.std.specs.Prelude.{◌≡◌, ◌↔◌, IsTrue, ◌<◌, ◌≤◌};
 ghost use Rattle.std.specs.Prelude.{◌⊎◌, ℕ, IfSome, MatchOption, [], drop, false, length};
 ghost use Rattle.rbac_model.specs.Policies.{PolicyView};
+ghost use Rattle.rbac_subjects.specs.Bound.{IsNextRun};
 ghost use Rattle.rbac_matrix.specs.Shown.{HasItsVerb, line_of};
 ghost use Rattle.rbac_matrix.specs.Lines.{LineView};
 ghost use Rattle.rbac_matrix.specs.Cursors.{AreRuns, AreRunsOn, IsAhead, IsBoundOn, IsCursorAt};
@@ -188,6 +189,20 @@ fn next_run(index: &Index<'_>, line: Line<'_>, runs: &Runs, walk: &mut Walk) -> 
     if runs.are_all() {
         return None;
     }
+    let run = looked_up_run(index, line, walk)?;
+    Some(run)
+}
+
+// The run after the one that the walk is in, looked up. Few lines look one up, and all walk, so this
+// stays out of the code of walks.
+#[inline(never)]
+fn looked_up_run(index: &Index<'_>, line: Line<'_>, walk: &mut Walk) -> Option<Run>
+    ensures found { MatchOption result
+        ((k : ℕ) → walk.old.end ≤ k → ¬ IsBoundOn index.now (line_of line.entry) k)
+        (λ run. IsNextRun index.now (line_of line.entry).who (line_of line.entry).namespace
+        walk.old.end run.start run.end) }
+    ensures same { (walk.new.next ≡ walk.old.next) × (walk.new.later ≡ walk.old.later) }
+{
     let subjects = index.subjects();
     let (start, end) = subjects.next_run(line.principal, line.namespace, walk.end)?;
     walk.steps = steps_after(line.principal, start.saturating_sub(walk.end));

@@ -3,7 +3,7 @@ use Rattle.std.proofs.Common.{◌≡◌, ◌≢◌, ℕ, ◌<◌, ◌⊎◌, ◌
 use Rattle.std.proofs.Math.ListN.{get_or-eq_default, length-set}
 use Rattle.std.proofs.lemmas.Bool.{cases_eq, cases_lt}
 use Rattle.rbac_model.proofs.PlaceSets.{has_none}
-use Rattle.rbac_model.specs.Graphs.{Graph, IsGraph, HasEdge, HasPlace, IsWay, LeadsTo, LeadsAlike, AreFull, AreEnds}
+use Rattle.rbac_model.specs.Graphs.{Graph, IsGraph, HasEdge, HasPlace, IsWay, HasWay, LeadsAlike, AreFull, AreEnds}
 
 pub edge_within : (g : Graph) (a b : ℕ) → HasEdge g a b → a < length g
 edge_within g a b edge = elim (cases_lt a (length g)) [
@@ -12,7 +12,7 @@ edge_within g a b edge = elim (cases_lt a (length g)) [
 ]
 
 module _ (g : Graph) where
-  pub by_edge : (a b : ℕ) → HasEdge g a b → LeadsTo g a b
+  pub by_edge : (a b : ℕ) → HasEdge g a b → HasWay g a b
   by_edge a b edge = ([], edge)
 
   -- what the first edges lead to, and each further edge leads on in, a way leads to
@@ -24,16 +24,16 @@ module _ (g : Graph) where
   extended a [] m b way edge = (way, edge)
   extended a (x ∷ xs) m b way edge = (way.0, extended x xs m b way.1 edge)
 
-  pub one_on : (a m b : ℕ) → LeadsTo g a m → HasEdge g m b → LeadsTo g a b
+  pub one_on : (a m b : ℕ) → HasWay g a m → HasEdge g m b → HasWay g a b
   one_on a m b way edge = (way.0 ++ m ∷ [], extended a way.0 m b way.1 edge)
 
-  pub through : (a m b : ℕ) → LeadsTo g a m → LeadsTo g m b → LeadsTo g a b
-  through a m b first second = along (LeadsTo g a) (λ k c way edge. one_on a k c way edge) m second.0 b (λ k edge. one_on a m k first edge) second.1
+  pub through : (a m b : ℕ) → HasWay g a m → HasWay g m b → HasWay g a b
+  through a m b first second = along (HasWay g a) (λ k c way edge. one_on a k c way edge) m second.0 b (λ k edge. one_on a m k first edge) second.1
 
-  pub led_within : IsGraph g → (a b : ℕ) → LeadsTo g a b → b < length g
+  pub led_within : IsGraph g → (a b : ℕ) → HasWay g a b → b < length g
   led_within is a b way = along (λ k. k < length g) (λ m k l edge. is m k edge) a way.0 b (λ k edge. is a k edge) way.1
 
-  pub first_edge : (a b : ℕ) → LeadsTo g a b → (k : ℕ) × HasEdge g a k
+  pub first_edge : (a b : ℕ) → HasWay g a b → (k : ℕ) × HasEdge g a k
   first_edge a b way = first_of_way a way.0 b way.1
     where
       first_of_way : (a : ℕ) (between : List ℕ) (b : ℕ) → IsWay g a between b → (k : ℕ) × HasEdge g a k
@@ -41,16 +41,16 @@ module _ (g : Graph) where
       first_of_way a (m ∷ ms) b w = (m, w.0)
 
 -- one row becomes all that its vertex leads to
-module _ (g : Graph) (at : ℕ) (row : List ℕ) (l : at < length g) (exact : (k : ℕ) → HasPlace row k ↔ LeadsTo g at k) where
-  here : (b : ℕ) → HasEdge (set g at row) at b ↔ LeadsTo g at b
+module _ (g : Graph) (at : ℕ) (row : List ℕ) (l : at < length g) (exact : (k : ℕ) → HasPlace row k ↔ HasWay g at k) where
+  here : (b : ℕ) → HasEdge (set g at row) at b ↔ HasWay g at b
   here b = rw (get_or-set_same g at row [] l) (exact b)
 
   elsewhere : (a b : ℕ) → a ≢ at → HasEdge (set g at row) a b ↔ HasEdge g a b
   elsewhere a b ne = rw (get_or-set_other g at a row [] ne) (λ edge. edge, λ edge. edge)
 
-  edge_leads : (a b : ℕ) → HasEdge (set g at row) a b → LeadsTo g a b
+  edge_leads : (a b : ℕ) → HasEdge (set g at row) a b → HasWay g a b
   edge_leads a b edge = elim (cases_eq a at) [
-    | inl e ↦ subst (λ (v : ℕ). LeadsTo g v b) (sym e) ((here b).0 (subst (λ (v : ℕ). HasEdge (set g at row) v b) e edge))
+    | inl e ↦ subst (λ (v : ℕ). HasWay g v b) (sym e) ((here b).0 (subst (λ (v : ℕ). HasEdge (set g at row) v b) e edge))
     | inr ne ↦ by_edge g a b ((elsewhere a b ne).0 edge)
   ]
 
@@ -64,16 +64,16 @@ module _ (g : Graph) (at : ℕ) (row : List ℕ) (l : at < length g) (exact : (k
   one_alike = record {
     len = length-set g at row;
     same = λ a b. (
-      λ way. along (set g at row) (LeadsTo g a) (λ m c w edge. through g a m c w (edge_leads m c edge)) a way.0 b (λ k edge. edge_leads a k edge) way.1,
-      λ way. along g (LeadsTo (set g at row) a) (λ m c w edge. one_on (set g at row) a m c w (edge_kept m c edge)) a way.0 b (λ k edge. by_edge (set g at row) a k (edge_kept a k edge)) way.1,
+      λ way. along (set g at row) (HasWay g a) (λ m c w edge. through g a m c w (edge_leads m c edge)) a way.0 b (λ k edge. edge_leads a k edge) way.1,
+      λ way. along g (HasWay (set g at row) a) (λ m c w edge. one_on (set g at row) a m c w (edge_kept m c edge)) a way.0 b (λ k edge. by_edge (set g at row) a k (edge_kept a k edge)) way.1,
     );
   }
 
   pub one_full : (closed more : List ℕ) → AreFull g closed → ((k : ℕ) → HasPlace more k ↔ (HasPlace closed k ⊎ (k ≡ at))) → AreFull (set g at row) more
   one_full closed more full is a k b has first second = elim (cases_eq a at) [
     | inl e ↦
-        let way : LeadsTo g a b = through g a k b (edge_leads a k first) (edge_leads k b second) in
-        subst (λ (v : ℕ). HasEdge (set g at row) v b) (sym e) ((here b).1 (subst (λ (v : ℕ). LeadsTo g v b) e way))
+        let way : HasWay g a b = through g a k b (edge_leads a k first) (edge_leads k b second) in
+        subst (λ (v : ℕ). HasEdge (set g at row) v b) (sym e) ((here b).1 (subst (λ (v : ℕ). HasWay g v b) e way))
     | inr ne ↦
         let was : HasPlace closed a = elim ((is a).0 has) [ inl m ↦ m | inr e ↦ absurd (ne e) ] in
         let way = edge_leads k b second in
@@ -101,7 +101,7 @@ still_ends g h ends are alike a b has edge =
     let first = first_edge g a b ((alike.same a b).0 (by_edge h a b edge)) in
     are a first.0 has first.1
 
-pub all_closed : (g h : Graph) (closed : List ℕ) → LeadsAlike g h → AreFull h closed → ((k : ℕ) → k < length h → HasPlace closed k) → (a b : ℕ) → HasEdge h a b ↔ LeadsTo g a b
+pub all_closed : (g h : Graph) (closed : List ℕ) → LeadsAlike g h → AreFull h closed → ((k : ℕ) → k < length h → HasPlace closed k) → (a b : ℕ) → HasEdge h a b ↔ HasWay g a b
 all_closed g h closed alike full all a b = (
   λ edge. (alike.same a b).0 (by_edge h a b edge),
   λ to.

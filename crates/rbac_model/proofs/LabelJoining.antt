@@ -15,7 +15,7 @@ use Rattle.std.proofs.Math.ListN.{get_or-append}
 use Rattle.rbac_terms.specs.Text.{Text, text_cmp}
 use Rattle.rbac_terms.proofs.Orderings.{equal_from_test}
 use Rattle.rbac_model.specs.Lists.{by_name}
-use Rattle.rbac_model.specs.Labelled.{LabelEntry, Says, AreInOrder, SayTheSame, IsWithEntry, IsWithAt, HasSome, label_texts}
+use Rattle.rbac_model.specs.Labelled.{LabelEntry, Says, AreInLabelOrder, SayTheSame, IsWithEntry, IsWithAt, HasSome, label_texts}
 use Rattle.rbac_terms.specs.declared.granting.ClusterRole.{ClusterRole}
 use Rattle.rbac_model.proofs.LabelSets.{any_push}
 use Rattle.rbac_model.proofs.LastNamed.{ranks}
@@ -40,7 +40,7 @@ other_label a b asked o r is compared named f same =
 pub put_behind : (old : List LabelEntry) (added : LabelEntry) → IsWithEntry old added (old ++ added ∷ [])
 put_behind old added = record {
   says = λ label k. any_push (λ e. Says e label k) old added;
-  in_order = λ rest up. subst AreInOrder (sym (append_assoc old (added ∷ []) rest)) up;
+  in_order = λ rest up. subst AreInLabelOrder (sym (append_assoc old (added ∷ []) rest)) up;
 }
 
 -- the entry at a place takes over the bits of one of its label and its word
@@ -98,7 +98,7 @@ module _ (old : List LabelEntry) (at : ℕ) (x last added : LabelEntry) (l : at 
           (i + 1, omega arith, omega arith, λ w. absurd (omega (arith, g, w)), λ _. refl, ap (λ (e : LabelEntry). e.label) (ap (λ (n : ℕ). get_or (set old at x ++ rest) n d) (sym here) ∙ read ∙ ap (λ (n : ℕ). get_or (old ++ added ∷ rest) n d) there))
     ]
 
-    one_less : AreInOrder (old ++ added ∷ rest) → AreInOrder (set old at x ++ rest)
+    one_less : AreInLabelOrder (old ++ added ∷ rest) → AreInLabelOrder (set old at x ++ rest)
     one_less up k d from within =
         let len = length-append (set old at x) rest in
         let more = length-append old (added ∷ rest) in
@@ -128,12 +128,12 @@ module _ (old : List LabelEntry) (at : ℕ) (x last added : LabelEntry) (l : at 
   put_together named near = record { says = still_say named near; in_order = one_less }
 
 -- entry by entry
-pub joined_more : (entries yielded joined new : List LabelEntry) (x : LabelEntry) → length yielded < length entries → x ≡ get_or entries (length yielded) x → IsWithEntry joined x new → AreInOrder (joined ++ drop (length yielded) entries) → AreInOrder (new ++ drop (length (yielded ++ x ∷ [])) entries)
+pub joined_more : (entries yielded joined new : List LabelEntry) (x : LabelEntry) → length yielded < length entries → x ≡ get_or entries (length yielded) x → IsWithEntry joined x new → AreInLabelOrder (joined ++ drop (length yielded) entries) → AreInLabelOrder (new ++ drop (length (yielded ++ x ∷ [])) entries)
 joined_more entries yielded joined new x l is more up =
     let i = length yielded in
     let split : drop i entries ≡ x ∷ drop (i + 1) entries = drop_more entries i x l ∙ ap (λ (e : LabelEntry). e ∷ drop (i + 1) entries) (sym is) in
     let next : i + 1 ≡ length (yielded ++ x ∷ []) = omega (arith, length-append yielded (x ∷ [])) in
-    subst (λ (n : ℕ). AreInOrder (new ++ drop n entries)) next (more.in_order (drop (i + 1) entries) (subst (λ (xs : List LabelEntry). AreInOrder (joined ++ xs)) split up))
+    subst (λ (n : ℕ). AreInLabelOrder (new ++ drop n entries)) next (more.in_order (drop (i + 1) entries) (subst (λ (xs : List LabelEntry). AreInLabelOrder (joined ++ xs)) split up))
 
 pub said_more : (yielded joined new : List LabelEntry) (x : LabelEntry) → IsWithEntry joined x new → SayTheSame yielded joined → SayTheSame (yielded ++ x ∷ []) new
 said_more yielded joined new x more same label k =
@@ -142,9 +142,9 @@ said_more yielded joined new x more same label k =
       λ w. (more.says label k).1 (elim (push.0 w) [ inl o ↦ inl ((same label k).1 o) | inr s ↦ inr s ]),
     )
 
-pub joined_all : (entries joined : List LabelEntry) (n : ℕ) → length entries ≤ n → AreInOrder (joined ++ drop n entries) → AreInOrder joined
+pub joined_all : (entries joined : List LabelEntry) (n : ℕ) → length entries ≤ n → AreInLabelOrder (joined ++ drop n entries) → AreInLabelOrder joined
 joined_all entries joined n le up =
-    subst AreInOrder (ap (λ (xs : List LabelEntry). joined ++ xs) (drop_all n entries le) ∙ append-nil joined) up
+    subst AreInLabelOrder (ap (λ (xs : List LabelEntry). joined ++ xs) (drop_all n entries le) ∙ append-nil joined) up
 
 pub still_exact : (roles : List ClusterRole) (entries joined : List LabelEntry) → SayTheSame entries joined → ((key : Text) (value : Option Text) (k : ℕ) → Any (λ e. Says e (label_texts key value) k) entries ↔ IsWithAt (λ labels. HasSome labels key value) roles k)
     → (key : Text) (value : Option Text) (k : ℕ) → Any (λ e. Says e (label_texts key value) k) joined ↔ IsWithAt (λ labels. HasSome labels key value) roles k

@@ -4,11 +4,11 @@ use Rattle.std.specs.Int.{bit_at}
 use Rattle.std.proofs.lemmas.Bool.{cases_eq}
 use Rattle.std.proofs.lemmas.Nat.Bits.{bit_at-lt}
 use Rattle.rbac_model.proofs.Closing.{by_edge, along, one_on, led_within}
-use Rattle.rbac_model.specs.Graphs.{Graph, IsGraph, HasEdge, HasPlace, LeadsTo, AreFull, AreEnds}
+use Rattle.rbac_model.specs.Graphs.{Graph, IsGraph, HasEdge, HasPlace, HasWay, AreFull, AreEnds}
 
 -- what was seen is led to, and the edges of what is done were seen
 pub record IsReaching (g : Graph) (from : ℕ) (seen done : List ℕ) : Type 0 where
-  pub sound : (k : ℕ) → HasPlace seen k → LeadsTo g from k
+  pub sound : (k : ℕ) → HasPlace seen k → HasWay g from k
   pub first : (k : ℕ) → HasEdge g from k → HasPlace seen k
   pub taken : (m k : ℕ) → HasPlace done m → HasEdge g m k → HasPlace seen k
 
@@ -34,7 +34,7 @@ module _ (g : Graph) (from : ℕ) where
     ]);
   }
 
-  pub reached_all : (seen done : List ℕ) → IsGraph g → IsReaching g from seen done → ((k : ℕ) → k < length g → HasPlace seen k → HasPlace done k) → (k : ℕ) → HasPlace seen k ↔ LeadsTo g from k
+  pub reached_all : (seen done : List ℕ) → IsGraph g → IsReaching g from seen done → ((k : ℕ) → k < length g → HasPlace seen k → HasPlace done k) → (k : ℕ) → HasPlace seen k ↔ HasWay g from k
   reached_all seen done is reaching all k = (
     reaching.sound k,
     λ way. along g (HasPlace seen) (λ m b has edge. reaching.taken m b (all m (led_within g is from m (reaching.sound m has)) has) edge) from way.0 k reaching.first way.1,

@@ -6,8 +6,8 @@ use Rattle.std.specs.Prelude.{Some, slice_get}
 use Rattle.std.specs.List.{AllZip}
 use Rattle.std.proofs.lemmas.Option.{same_Some, slice_get_within, slice_get-get_or, slice_get_cases}
 use Rattle.rbac_model.proofs.PlaceSets.{has_none}
-use Rattle.rbac_model.specs.Policies.{Held, IsPath, Reaches, Gathers}
-use Rattle.rbac_model.specs.Graphs.{Graph, IsGraph, HasPlace, HasEdge, IsWay, LeadsTo}
+use Rattle.rbac_model.specs.Policies.{Held, IsSelectionPath, Reaches, Gathers}
+use Rattle.rbac_model.specs.Graphs.{Graph, IsGraph, HasPlace, HasEdge, IsWay, HasWay}
 use Rattle.rbac_model.specs.Places.{IsStepTo, IsRowOf, AreSteps, IsReachedAt, AreReachedByEach}
 use Rattle.rbac_terms.specs.declared.granting.ClusterRole.{ClusterRole}
 use Rattle.rbac_terms.proofs.Reading.{contains_read}
@@ -44,7 +44,7 @@ step_same h r k s read step =
     subst P (same_Some step.0 s (sym step.1 ∙ read)) (step.2.1, step.2.2)
 
 -- what is reached is held
-path_held : (h : Held) (r : ClusterRole) (between : List ClusterRole) (s : ClusterRole) → IsPath h r between s → Contains h.cluster_roles s
+path_held : (h : Held) (r : ClusterRole) (between : List ClusterRole) (s : ClusterRole) → IsSelectionPath h r between s → Contains h.cluster_roles s
 path_held h r [] s step = step.0
 path_held h r (m ∷ ms) s path = path_held h m ms s path.1
 
@@ -83,7 +83,7 @@ module _ (h : Held) (g : Graph) (are : AreSteps h g) where
       let rest = way_path m step.0 ms k step.1 way.1 in
       (rest.0, rest.1, (step.0 ∷ rest.2.0, (step.2, rest.2.1)))
 
-  path_way : (a : ℕ) (r : ClusterRole) (between : List ClusterRole) (s : ClusterRole) (k : ℕ) → slice_get h.cluster_roles a ≡ Some r → slice_get h.cluster_roles k ≡ Some s → IsPath h r between s → LeadsTo g a k
+  path_way : (a : ℕ) (r : ClusterRole) (between : List ClusterRole) (s : ClusterRole) (k : ℕ) → slice_get h.cluster_roles a ≡ Some r → slice_get h.cluster_roles k ≡ Some s → IsSelectionPath h r between s → HasWay g a k
   path_way a r [] s k e there step = ([], step_edge a r k e (s, there, step))
   path_way a r (m ∷ ms) s k e there path =
       let at = read_contains h.cluster_roles m path.0.0 in
@@ -91,7 +91,7 @@ module _ (h : Held) (g : Graph) (are : AreSteps h g) where
       (at.0 ∷ rest.0, (step_edge a r at.0 e (m, at.1, path.0), rest.1))
 
   -- where each vertex has edges to all that it led to, the roles that are reached are in the set
-  pub are_reaches : (rows : Graph) → length rows ≡ length g → ((a b : ℕ) → HasEdge rows a b ↔ LeadsTo g a b) → AreReachedByEach h rows
+  pub are_reaches : (rows : Graph) → length rows ≡ length g → ((a b : ℕ) → HasEdge rows a b ↔ HasWay g a b) → AreReachedByEach h rows
   are_reaches rows len exact = record {
     len = len ∙ rows_len;
     exact = λ at r e k. (

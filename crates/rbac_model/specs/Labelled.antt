@@ -3,7 +3,7 @@ use Rattle.std.specs.Prelude.{slice_get}
 use Rattle.std.specs.Int.{bit_at}
 use Rattle.std.specs.List.Sorted.{IsSorted}
 use Rattle.rbac_terms.specs.Text.{Text}
-use Rattle.rbac_terms.specs.Selecting.{LabelTexts, HasLabel, HasKey}
+use Rattle.rbac_terms.specs.Selecting.{LabelTexts, HasLabel, HasLabelKey}
 use Rattle.rbac_terms.specs.declared.granting.ClusterRole.{ClusterRole}
 use Rattle.rbac_model.specs.Graphs.{HasPlace}
 use Rattle.rbac_model.specs.Lists.{by_name}
@@ -23,7 +23,7 @@ label_texts key (Some value) = key ∷ value ∷ []
 
 -- some label has the key and the value, or, if no value is asked for, the key
 abbrev pub HasSome : LabelTexts → Text → Option Text → Type 0
-HasSome labels key None = HasKey labels key
+HasSome labels key None = HasLabelKey labels key
 HasSome labels key (Some value) = HasLabel labels key value
 
 -- a label, and which of the 64 places of one word have it: those whose bit is 1
@@ -50,8 +50,8 @@ Adds old new labels place = (key : Text) (value : Option Text) (k : ℕ)
     ↔ (Any (λ e. Says e (label_texts key value) k) old ⊎ ((k ≡ place) × HasSome labels key value))
 
 -- no entry's label is less than the one before it
-abbrev pub AreInOrder : List LabelEntry → Type 0
-AreInOrder = IsSorted (by_name (λ e. e.label))
+abbrev pub AreInLabelOrder : List LabelEntry → Type 0
+AreInLabelOrder = IsSorted (by_name (λ e. e.label))
 
 -- ys say of each label the same as xs
 abbrev pub SayTheSame : List LabelEntry → List LabelEntry → Type 0
@@ -63,5 +63,5 @@ pub record IsWithEntry (old : List LabelEntry) (entry : LabelEntry)
     (new : List LabelEntry) : Type 0 where
   pub says : (label : List Text) (k : ℕ)
       → Any (λ e. Says e label k) new ↔ (Any (λ e. Says e label k) old ⊎ Says entry label k)
-  pub in_order : (rest : List LabelEntry) → AreInOrder (old ++ entry ∷ rest)
-      → AreInOrder (new ++ rest)
+  pub in_order : (rest : List LabelEntry) → AreInLabelOrder (old ++ entry ∷ rest)
+      → AreInLabelOrder (new ++ rest)

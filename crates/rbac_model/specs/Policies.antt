@@ -86,14 +86,14 @@ abbrev pub Step : Held → ClusterRole → ClusterRole → Type 0
 Step h r s = Contains h.cluster_roles s × (r.name ≢ s.name) × Gathers r.aggregation s
 
 -- a path of steps from r through these roles, one after the other, to s
-abbrev pub IsPath : Held → ClusterRole → List ClusterRole → ClusterRole → Type 0
-IsPath h r [] s = Step h r s
-IsPath h r (m ∷ ms) s = Step h r m × IsPath h m ms s
+abbrev pub IsSelectionPath : Held → ClusterRole → List ClusterRole → ClusterRole → Type 0
+IsSelectionPath h r [] s = Step h r s
+IsSelectionPath h r (m ∷ ms) s = Step h r m × IsSelectionPath h m ms s
 
 -- s is reached from r by one or more steps (own: the settled state, computed from plain roles
 -- alone)
 abbrev pub Reaches : Held → ClusterRole → ClusterRole → Type 0
-Reaches h r s = (between : List ClusterRole) × IsPath h r between s
+Reaches h r s = (between : List ClusterRole) × IsSelectionPath h r between s
 
 -- the names of all cluster roles that r reaches, ascending
 pub record AreReachedNames (h : Held) (r : ClusterRole) (ws : List Text) : Type 0 where

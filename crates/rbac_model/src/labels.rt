@@ -11,7 +11,7 @@ ghost use Rattle.rbac_terms.specs.Selecting.{Selects, Meets, HasLabel, HasOneOf}
 ghost use Rattle.rbac_model.specs.Graphs.{HasPlace};
 ghost use Rattle.rbac_model.specs.Lists.{by_name};
 ghost use Rattle.rbac_model.specs.Labelled.{LabelEntry, AreWith, IsWithAt, HasSome, Adds};
-ghost use Rattle.rbac_model.specs.Labelled.{AreInOrder, SayTheSame, IsWithEntry, label_texts};
+ghost use Rattle.rbac_model.specs.Labelled.{AreInLabelOrder, SayTheSame, IsWithEntry, label_texts};
 
 use crate::place_set::PlaceSet;
 use rbac_terms::{
@@ -293,9 +293,9 @@ fn push_labels<'a>(
 // The same labels, with one entry in place of those of one label and one word, because roles that
 // all select by one label would otherwise take as many steps each as there are roles.
 fn joined<'a>(alloc: Global, entries: Vec<Entry<'a>>) -> Result<Vec<Entry<'a>>, AllocError>
-    requires { AreInOrder entries.items }
+    requires { AreInLabelOrder entries.items }
     ensures { IfOk result
-        (λ joined. AreInOrder joined.items × SayTheSame entries.entry.items joined.items) }
+        (λ joined. AreInLabelOrder joined.items × SayTheSame entries.entry.items joined.items) }
 {
     let mut joined = Vec::new(alloc);
     for entry in entries {

@@ -23,7 +23,7 @@ mod why;
 
 pub use fault::ResolveFault;
 pub use laws::{grants_are_one_list, kept_objects_are_one, words_match_themselves};
-pub use live::{is_live, is_live_in, may_be_live_in};
+pub use live::{is_live, is_live_at, is_live_in, may_be_live_in};
 pub use objects::{Named, Object, Objects};
 pub use own_words::{allows_url_word, gives_path};
 pub use places::{GrantPlace, RolePlace};

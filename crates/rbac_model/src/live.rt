@@ -1,26 +1,31 @@
 //! Where a binding is live.
 
 ghost use Rattle.std.specs.Prelude.{IsTrue, ◌↔◌};
+ghost use Rattle.std.specs.Option.{option_copied};
 ghost use Rattle.rbac_model.specs.Policies.{Live};
 ghost use Rattle.rbac_model.specs.Scopes.{LiveIn, MayBeLiveIn};
 
 use rbac_terms::{Binding, Scope, Target, Word};
 
-/// Whether the binding is live for this target in this namespace (Using RBAC Authorization): a
-/// ClusterRoleBinding is live everywhere, a RoleBinding only for resources of its own namespace,
-/// and never in the empty one. Doesn't allocate.
+/// Whether a binding of the namespace `home`, or a ClusterRoleBinding if there is none, is live for
+/// this target in this namespace (Using RBAC Authorization): a ClusterRoleBinding is live everywhere,
+/// a RoleBinding only for resources of its own namespace, and never in the empty one. Doesn't
+/// allocate.
+pub fn is_live_at(home: Option<&Word>, namespace: &Word, target: &Target) -> bool
+    ensures { IsTrue result ↔ Live (option_copied home.entry) namespace.now target.now }
+{
+    match home {
+        None => true,
+        Some(own) => !target.is_url() && !namespace.is_empty() && own == namespace,
+    }
+}
+
+/// Whether the binding is live for this target in this namespace, as `is_live_at` says of its
+/// namespace. Doesn't allocate.
 pub fn is_live(binding: &Binding, namespace: &Word, target: &Target) -> bool
     ensures { IsTrue result ↔ Live binding.now.namespace namespace.now target.now }
 {
-    match &binding.namespace {
-        None => true,
-        Some(own) => {
-            if target.is_url() {
-                return false;
-            }
-            !namespace.is_empty() && own == namespace
-        }
-    }
+    is_live_at(binding.namespace.as_ref(), namespace, target)
 }
 
 /// Whether the binding is live for this target where a request is asked (own). Doesn't allocate.

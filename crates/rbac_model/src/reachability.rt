@@ -2,7 +2,7 @@
 
 ghost use Rattle.std.specs.Prelude.{◌≡◌, ◌<◌, ◌⊎◌, ◌↔◌, ℕ, IfOk, OnOk, MatchOption, length};
 ghost use Rattle.std.specs.Prelude.{vec_len};
-ghost use Rattle.rbac_model.specs.Graphs.{IsGraph, HasEdge, LeadsTo, HasPlace, LeadsAlike, AreFull};
+ghost use Rattle.rbac_model.specs.Graphs.{IsGraph, HasEdge, HasWay, HasPlace, LeadsAlike, AreFull};
 ghost use Rattle.rbac_model.specs.Graphs.{AreEnds};
 
 use crate::place_set::PlaceSet;
@@ -14,7 +14,7 @@ pub(crate) fn close(alloc: Global, graph: &mut Vec<PlaceSet>) -> Result<(), Allo
     requires { IsGraph graph.old.items }
     ensures len { vec_len graph.new ≡ vec_len graph.old }
     ensures exact { OnOk result
-        ((a b : ℕ) → HasEdge graph.new.items a b ↔ LeadsTo graph.old.items a b) }
+        ((a b : ℕ) → HasEdge graph.new.items a b ↔ HasWay graph.old.items a b) }
 {
     let ends = ends_of(alloc, graph.as_slice())?;
     let order = order_of(alloc, graph.as_slice())?;
@@ -95,7 +95,7 @@ fn reach(
     requires ends { AreEnds graph.now ends.now }
     requires full { AreFull graph.now closed.now }
     requires from { from < length graph.now }
-    ensures { IfOk result (λ row. (k : ℕ) → HasPlace row k ↔ LeadsTo graph.now from k) }
+    ensures { IfOk result (λ row. (k : ℕ) → HasPlace row k ↔ HasWay graph.now from k) }
 {
     let mut seen = graph[from].clone()?;
     let mut done = ends.clone()?;

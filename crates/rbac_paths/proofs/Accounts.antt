@@ -3,7 +3,7 @@ use Rattle.std.proofs.Common.{◌≡◌, ◌+◌, ◌≤◌, ◌∙◌, ℕ, ◌
 use Rattle.std.specs.Prelude.{codes, slice_range}
 use Rattle.std.proofs.lemmas.List.{drop_at, length-append, take_all}
 use Rattle.rbac_terms.specs.Text.{Text}
-use Rattle.rbac_terms.specs.Principals.{Who, AsUser, AsMember, IsAccountIn, name_of}
+use Rattle.rbac_terms.specs.Principals.{Who, AsUser, AsMember, IsAccountIn, who_name}
 use Rattle.rbac_paths.specs.Nodes.{IsAccountNamed}
 
 pub named_in : (who : Who) (n m : Text) → IsAccountNamed who n m → IsAccountIn who n
@@ -28,10 +28,10 @@ module _ (p n m : Text) where
   behind : slice_range (front ++ m) (length p + length n + 1) (length (front ++ m)) ≡ m
   behind = rw (drop_at front m (length p + length n + 1) long) (take_all _ m (let all = all_long in omega (arith, all)))
 
-pub name_is : (who : Who) (n m : Text) → IsAccountNamed who n m → slice_range (name_of who) (22 + length n + 1) (length (name_of who)) ≡ m
+pub name_is : (who : Who) (n m : Text) → IsAccountNamed who n m → slice_range (who_name who) (22 + length n + 1) (length (who_name who)) ≡ m
 name_is (AsUser user given) n m a = subst (λ (t : Text). slice_range t (22 + length n + 1) (length t) ≡ m) (sym a.0) (behind (codes "system:serviceaccount:") n m)
 name_is (AsMember group) n m a = elim a [ ]
 
-pub name_long : (who : Who) (n m : Text) → IsAccountNamed who n m → 22 + length n + 1 ≤ length (name_of who)
+pub name_long : (who : Who) (n m : Text) → IsAccountNamed who n m → 22 + length n + 1 ≤ length (who_name who)
 name_long (AsUser user given) n m a = let all : length user ≡ 22 + length n + 1 + length m = ap length a.0 ∙ all_long (codes "system:serviceaccount:") n m in omega (arith, all)
 name_long (AsMember group) n m a = elim a [ ]

@@ -6,7 +6,7 @@ use Rattle.rbac_terms.specs.declared.matching.Rule.{Rule}
 use Rattle.rbac_model.proofs.OwnWords.{any_from}
 use Rattle.rbac_paths.specs.Asked.{HasRowNameFor}
 use Rattle.rbac_paths.specs.Rows.{HasRowName, HasRowResource}
-use Rattle.rbac_paths.specs.Steps.{AllowsRow, RowView}
+use Rattle.rbac_paths.specs.Steps.{AllowsRow, StepRowView}
 use Rattle.rbac_paths.specs.declared.table.Names.TheVariants as names
 
 -- rules match some name
@@ -20,7 +20,7 @@ any_has_name rule = let n = some_name rule.resource_names in (n.0, (n.0, tt), n.
 pub own_has_name : (rule : Rule) → HasRowName names.Own rule
 own_has_name rule = let n = some_name rule.resource_names in (n.0, (n.0, refl), n.1)
 
-pub allows_row : (r : RowView) (rule : Rule) → Any (VerbOk rule) r.verbs → Any (λ w. WordMatches w r.group) rule.groups → Any (HasRowResource rule) r.resources → HasRowName r.names rule → AllowsRow r rule
+pub allows_row : (r : StepRowView) (rule : Rule) → Any (VerbOk rule) r.verbs → Any (λ w. WordMatches w r.group) rule.groups → Any (HasRowResource rule) r.resources → HasRowName r.names rule → AllowsRow r rule
 allows_row r rule v g x n = record {
   verb = v.1;
   text = x.1;
@@ -31,7 +31,7 @@ allows_row r rule v g x n = record {
   allows = (v.4, (g, x.4, n.2));
 }
 
-pub row_allowed : (r : RowView) (rule : Rule) → AllowsRow r rule → Any (VerbOk rule) r.verbs × Any (λ w. WordMatches w r.group) rule.groups × Any (HasRowResource rule) r.resources × HasRowName r.names rule
+pub row_allowed : (r : StepRowView) (rule : Rule) → AllowsRow r rule → Any (VerbOk rule) r.verbs × Any (λ w. WordMatches w r.group) rule.groups × Any (HasRowResource rule) r.resources × HasRowName r.names rule
 row_allowed r rule a = (
   any_from (VerbOk rule) r.verbs a.verb a.of_verbs a.allows.0,
   a.allows.1.0,

@@ -1,7 +1,7 @@
 -- What is asked of somebody.
 use Rattle.std.proofs.Common.{◌≡◌, ◌↔◌, ◌∙◌, [], Option, Some, None, MatchOption, Bor, is_some, false, true, refl, sym}
 use Rattle.rbac_terms.specs.Text.{Text}
-use Rattle.rbac_terms.specs.Principals.{Who, AsUser, AsMember, name_of}
+use Rattle.rbac_terms.specs.Principals.{Who, AsUser, AsMember, who_name}
 use Rattle.rbac_paths.specs.Asked.{IsAnyUser}
 use Rattle.rbac_paths.specs.Nodes.{IsAccountNamed, Somebody}
 use Rattle.rbac_paths.specs.Taking.{IsOver}
@@ -21,7 +21,7 @@ module _ (who : Who) where
   is_named None e none = cc
   is_named (Some x) e parts = (x.0.now, x.1.now, (parts x.0.now x.1.now).1 (refl, refl))
 
-pub plain_user : (counts : Counts) (who : Who) (own : Text) → IsAnyUser who → ((n m : Text) → IsAccountNamed who n m → ⊥) → own ≡ name_of who
+pub plain_user : (counts : Counts) (who : Who) (own : Text) → IsAnyUser who → ((n m : Text) → IsAccountNamed who n m → ⊥) → own ≡ who_name who
     → (namespace name : Text) → IsOver over.Users counts (Somebody who) namespace name ↔ ((namespace ≡ []) × (name ≡ own))
 plain_user counts (AsUser user given) own is none e namespace name = (λ a. (a.0, a.1 ∙ sym e), λ a. (a.0, a.1 ∙ e, none))
 plain_user counts (AsMember group) own is none e namespace name = elim is [ ]

@@ -17,11 +17,11 @@ use Rattle.rbac_model.proofs.OwnWords.{any_from}
 use Rattle.rbac_model.specs.Policies.{Held}
 use Rattle.rbac_paths.specs.BoundNames.{AreBoundNames, BindsNamed, IsBoundName}
 use Rattle.rbac_paths.specs.Rows.{AreOfStep, MatchesRow}
-use Rattle.rbac_paths.specs.Steps.{RowView, table}
+use Rattle.rbac_paths.specs.Steps.{StepRowView, table}
 use Rattle.rbac_paths.specs.declared.steps.Step.TheVariants.{Bind}
 use Rattle.rbac_paths.proofs.WordsAdded.{AddsOf}
 
-module _ (rows : List RowView) (of : AreOfStep Bind table rows) (rule : Rule) where
+module _ (rows : List StepRowView) (of : AreOfStep Bind table rows) (rule : Rule) where
   pub binds_named : Any (λ row. MatchesRow row rule) rows → (name : Text) → Contains rule.resource_names name ↔ BindsNamed rule name
   binds_named a name = (
     λ h. (let there = (of a.1).0 (a.0, a.2, a.3) in (any_from (λ row. (row.step ≡ Bind) × MatchesRow row rule) table a.1 there.0 (there.1, a.4), h)),

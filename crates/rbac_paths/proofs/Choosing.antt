@@ -2,7 +2,7 @@
 use Rattle.std.proofs.Common.{◌≡◌, ◌⊎◌, ◌∙◌, zero, suc, List, [], ◌∷◌, ◌++◌, inl, inr, refl, sym, subst, ap, arith, Contains}
 use Rattle.std.proofs.lemmas.List.Elements.{Contains-append_left, Contains-append_right, Contains-append_cases}
 use Rattle.rbac_paths.specs.Rows.{AddsRow, AreOfStep}
-use Rattle.rbac_paths.specs.Steps.{RowView}
+use Rattle.rbac_paths.specs.Steps.{StepRowView}
 use Rattle.rbac_paths.specs.declared.steps.Step.{Step}
 
 module _ {X : Type 0} where
@@ -19,12 +19,12 @@ module _ {X : Type 0} where
     | inr h ↦ inr (only x y h)
   ]
 
-module _ (step : Step) (all rows : List RowView) (of : AreOfStep step all rows) (y : RowView) where
+module _ (step : Step) (all rows : List StepRowView) (of : AreOfStep step all rows) (y : StepRowView) where
   more_of_step : y.step ≡ step → AreOfStep step (all ++ y ∷ []) (rows ++ y ∷ [])
   more_of_step is r = (
     λ c. elim (among rows y r c) [
       | inl h ↦ (let w = (of r).0 h in (Contains-append_left all (y ∷ []) r w.0, w.1))
-      | inr e ↦ (subst (λ x. Contains (all ++ y ∷ []) x) (sym e) (last all y), ap (λ (x : RowView). x.step) e ∙ is)
+      | inr e ↦ (subst (λ x. Contains (all ++ y ∷ []) x) (sym e) (last all y), ap (λ (x : StepRowView). x.step) e ∙ is)
     ],
     λ h. elim (among all y r h.0) [
       | inl c ↦ Contains-append_left rows (y ∷ []) r ((of r).1 (c, h.1))
@@ -37,12 +37,12 @@ module _ (step : Step) (all rows : List RowView) (of : AreOfStep step all rows) 
     λ c. (let w = (of r).0 c in (Contains-append_left all (y ∷ []) r w.0, w.1)),
     λ h. elim (among all y r h.0) [
       | inl c ↦ (of r).1 (c, h.1)
-      | inr e ↦ absurd (isn (ap (λ (x : RowView). x.step) (sym e) ∙ h.1))
+      | inr e ↦ absurd (isn (ap (λ (x : StepRowView). x.step) (sym e) ∙ h.1))
     ],
   )
 
-pub added : (step : Step) (all rows new : List RowView) → AreOfStep step all rows → (y : RowView) → AddsRow step y rows new → AreOfStep step (all ++ y ∷ []) new
+pub added : (step : Step) (all rows new : List StepRowView) → AreOfStep step all rows → (y : StepRowView) → AddsRow step y rows new → AreOfStep step (all ++ y ∷ []) new
 added step all rows new of y a = elim a [
-  | inl h ↦ subst (λ (rs : List RowView). AreOfStep step (all ++ y ∷ []) rs) (sym h.1) (more_of_step step all rows of y h.0)
-  | inr h ↦ subst (λ (rs : List RowView). AreOfStep step (all ++ y ∷ []) rs) (sym h.1) (others_too step all rows of y h.0)
+  | inl h ↦ subst (λ (rs : List StepRowView). AreOfStep step (all ++ y ∷ []) rs) (sym h.1) (more_of_step step all rows of y h.0)
+  | inr h ↦ subst (λ (rs : List StepRowView). AreOfStep step (all ++ y ∷ []) rs) (sym h.1) (others_too step all rows of y h.0)
 ]

@@ -22,7 +22,7 @@ use Rattle.rbac_paths.specs.Having.{HasRoleRule, HoldingView, IsHolding}
 use Rattle.rbac_paths.specs.Joints.{IsNobody}
 use Rattle.rbac_paths.specs.Nodes.{NodeView, Somebody, ClusterRoleIn, OwnRole, EverythingIn}
 use Rattle.rbac_paths.specs.Rows.{HasRowResource, MatchesRow}
-use Rattle.rbac_paths.specs.Steps.{RowView, asked_in, row, table}
+use Rattle.rbac_paths.specs.Steps.{StepRowView, asked_in, row, table}
 use Rattle.rbac_paths.specs.Taking.{IsOver, RowTakes, RuleTakes, scope_namespace}
 use Rattle.rbac_paths.specs.TakingOver.{MayGoOn, HasAll, IsUntold, TakesByStep}
 use Rattle.rbac_paths.proofs.AllowedBy.{allow_by}
@@ -102,10 +102,10 @@ module _ (p : PolicyView) (ok : IsPolicy p) where
 abbrev rbac : Text
 rbac = codes "rbac.authorization.k8s.io"
 
-abbrev bind_by_name : Text → Over → RowView
+abbrev bind_by_name : Text → Over → StepRowView
 bind_by_name resource over = row Bind names.Own counted.InNamespaces (codes "bind" ∷ []) rbac (resource ∷ []) over
 
-abbrev bind_all : RowView
+abbrev bind_all : StepRowView
 bind_all = row Bind names.None counted.InNamespaces (codes "bind" ∷ []) rbac (codes "clusterroles" ∷ codes "roles" ∷ []) over.Everything
 
 over_cluster_role : (o : Over) (counts : Counts) (role : ClusterRole) (scope : Option Text) (namespace own : Text) → IsOver o counts (ClusterRoleIn role scope) namespace own → o ≡ over.ClusterRoles
@@ -125,11 +125,11 @@ over_role over.ClusterRoles counts role namespace own is = elim is [ ]
 over_role over.Roles counts role namespace own is = refl
 
 -- one row alone takes over cluster roles, and one alone roles of namespaces
-in_either : (b : Bool) (x : RowView) (rows : List RowView) (r : RowView) → Contains rows r → Contains (cond b (x ∷ rows) rows) r
+in_either : (b : Bool) (x : StepRowView) (rows : List StepRowView) (r : StepRowView) → Contains rows r → Contains (cond b (x ∷ rows) rows) r
 in_either true x rows r c = (suc c.0, omega (arith, c.1), c.2)
 in_either false x rows r c = c
 
-pub is_kept : (is : RowView → Bool) (rows : List RowView) (r : RowView) → Contains rows r → is r ≡ true → Contains (filter is rows) r
+pub is_kept : (is : StepRowView → Bool) (rows : List StepRowView) (r : StepRowView) → Contains rows r → is r ≡ true → Contains (filter is rows) r
 is_kept is [] r c passes = absurd (let low = c.1 in omega (arith, low))
 is_kept is (x ∷ xs) r (zero, low, e) passes =
     let here : Contains (x ∷ filter is xs) r = (0, omega arith, e) in
@@ -144,12 +144,12 @@ abbrev over_roles : Over → Bool
 over_roles over.Roles = true
 over_roles _ = false
 
-one_of_cluster_roles : (r : RowView) → Contains table r → r.over ≡ over.ClusterRoles → r ≡ bind_by_name (codes "clusterroles") over.ClusterRoles
+one_of_cluster_roles : (r : StepRowView) → Contains table r → r.over ≡ over.ClusterRoles → r ≡ bind_by_name (codes "clusterroles") over.ClusterRoles
 one_of_cluster_roles r c is =
     let kept : Contains (bind_by_name (codes "clusterroles") over.ClusterRoles ∷ []) r = is_kept (λ x. over_cluster_roles x.over) table r c (ap over_cluster_roles is) in
     sym (one_element (bind_by_name (codes "clusterroles") over.ClusterRoles) r kept)
 
-one_of_roles : (r : RowView) → Contains table r → r.over ≡ over.Roles → r ≡ bind_by_name (codes "roles") over.Roles
+one_of_roles : (r : StepRowView) → Contains table r → r.over ≡ over.Roles → r ≡ bind_by_name (codes "roles") over.Roles
 one_of_roles r c is =
     let kept : Contains (bind_by_name (codes "roles") over.Roles ∷ []) r = is_kept (λ x. over_roles x.over) table r c (ap over_roles is) in
     sym (one_element (bind_by_name (codes "roles") over.Roles) r kept)
@@ -251,16 +251,16 @@ module _ (p : PolicyView) (ok : IsPolicy p) (steps : List Step) (x : NodeView) (
 
     module _ (resource : Text) (o : Over) (same : t.can.row ≡ bind_by_name resource o) where
       is_bind : step ≡ Bind
-      is_bind = sym t.can.of_step ∙ ap (λ (r : RowView). r.step) same
+      is_bind = sym t.can.of_step ∙ ap (λ (r : StepRowView). r.step) same
 
       bind_among : Contains steps Bind
       bind_among = subst (λ (s : Step). Contains steps s) is_bind t.among
 
       in_table : Contains table (bind_by_name resource o)
-      in_table = subst (λ (r : RowView). Contains table r) same t.can.of_table
+      in_table = subst (λ (r : StepRowView). Contains table r) same t.can.of_table
 
       takes : RowTakes (bind_by_name resource o) by.0.home by.0.rule y
-      takes = subst (λ (r : RowView). RowTakes r by.0.home by.0.rule y) same by.2
+      takes = subst (λ (r : StepRowView). RowTakes r by.0.home by.0.rule y) same by.2
 
       bound : (name : Text) (scope : Option Text) → takes.own ≡ name → IsNobody y → (HasAll p steps x scope → IsUntold p steps x y) → BindsNamed by.0.rule takes.own ⊎ RuleTakes Bind by.0.home by.0.rule (EverythingIn scope) → IsBoundName p.held name
       bound name scope is nobody hides (inl binds) = bound_by p.held by.0.rule name (subst (BindsNamed by.0.rule) is binds) (holding_written p ok x by.0 held (no_everything x y nobody t.goes_on) by.1)

@@ -8,11 +8,11 @@ use Rattle.rbac_model.proofs.OwnWords.{any_from}
 use Rattle.rbac_paths.specs.Powers.{AllowsStep, GivesStep}
 use Rattle.rbac_paths.specs.Finding.{GivesNone, IsFirstGiving}
 use Rattle.rbac_paths.specs.Rows.{AreOfStep}
-use Rattle.rbac_paths.specs.Steps.{AllowsIn, RowView, table}
+use Rattle.rbac_paths.specs.Steps.{AllowsIn, StepRowView, table}
 use Rattle.rbac_terms.specs.declared.granting.Binding.{Binding}
 use Rattle.rbac_paths.specs.declared.steps.Step.{Step}
 
-module _ (step : Step) (rows : List RowView) (of : AreOfStep step table rows) (namespace : Option Text) (rule : Rule) where
+module _ (step : Step) (rows : List StepRowView) (of : AreOfStep step table rows) (namespace : Option Text) (rule : Rule) where
   pub by_rows : Any (AllowsIn namespace rule) rows → AllowsStep step namespace rule
   by_rows a =
       let w = (of a.1).0 (a.0, a.2, a.3) in
@@ -27,10 +27,10 @@ own_binding p n place g b here of there =
     ap (λ (x : GrantView). x.binding) (same_Some g of.0 (sym here ∙ of.1)) ∙ same_Some of.0.binding b (sym of.2 ∙ there)
 
 -- the rows allow nothing by the grants from one number up to another
-abbrev pub AllowsNone : PolicyView → List RowView → ℕ → ℕ → Type 0
+abbrev pub AllowsNone : PolicyView → List StepRowView → ℕ → ℕ → Type 0
 AllowsNone p rows from end = (k : ℕ) (g : GrantView) → from ≤ k → k < end → slice_get p.grants k ≡ Some g → ¬ Any (AllowsIn g.binding.namespace g.rule.rule) rows
 
-module _ (p : PolicyView) (rows : List RowView) (from end place : ℕ) (step : Step) (of : AreOfStep step table rows)
+module _ (p : PolicyView) (rows : List StepRowView) (from end place : ℕ) (step : Step) (of : AreOfStep step table rows)
     (between : (n at : ℕ) → IsOfBinding p n at → ((from ≤ n) × (n < end)) ↔ (at ≡ place)) where
   -- no grant of the binding gives the step, if the rows allow nothing by any of them
   pub gives_none : AllowsNone p rows from end → GivesNone p step place

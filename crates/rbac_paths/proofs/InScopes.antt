@@ -6,7 +6,7 @@ use Rattle.rbac_model.specs.Policies.{PolicyView}
 use Rattle.rbac_paths.specs.Having.{HoldingView}
 use Rattle.rbac_paths.specs.Joints.{AreOverOthers, AreScoped, CountsAt, DecideOn, IsNobody, IsOverNobody, MayTakeBy, SomeMayTake, scope_at}
 use Rattle.rbac_paths.specs.Nodes.{NodeView, Somebody, ClusterRoleIn, OwnRole, EverythingIn}
-use Rattle.rbac_paths.specs.Steps.{RowView, table}
+use Rattle.rbac_paths.specs.Steps.{StepRowView, table}
 use Rattle.rbac_paths.specs.Taking.{IsOver}
 use Rattle.rbac_paths.specs.TakingOver.{HasAll, IsUntold, TakesOver, WritesRoles}
 use Rattle.rbac_paths.specs.Told.{HoldingTakes, HoldingsTake}
@@ -35,7 +35,7 @@ is_strange over.Everything counted.InNamespaces step = writes_nothing step
 is_strange over.ClusterRoles counts step = writes_nothing step
 is_strange over.Roles counts step = writes_nothing step
 
-none_strange : (r : RowView) → Contains table r → is_strange r.over r.counts r.step ≡ true → ⊥
+none_strange : (r : StepRowView) → Contains table r → is_strange r.over r.counts r.step ≡ true → ⊥
 none_strange r c e =
     let kept : Contains [] r = is_kept (λ x. is_strange x.over x.counts x.step) table r c e in
     let low = kept.1 in

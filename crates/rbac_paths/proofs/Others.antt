@@ -14,7 +14,7 @@ use Rattle.rbac_paths.specs.Having.{HoldingView}
 use Rattle.rbac_paths.specs.Joints.{AreOtherPlaces, AreOthers, AreOverOthers, CountsAt, DecideOn, IsAboutNode, IsNobody, IsOther, IsOverNobody, MatchesOverOthers, MayTakeBy, SomeMayTake, scope_at}
 use Rattle.rbac_paths.specs.Nodes.{NodeView, Somebody, ClusterRoleIn, OwnRole, EverythingIn}
 use Rattle.rbac_paths.specs.Rows.{AreOfStep, HasRowResource}
-use Rattle.rbac_paths.specs.Steps.{RowView, asked_in, table}
+use Rattle.rbac_paths.specs.Steps.{StepRowView, asked_in, table}
 use Rattle.rbac_paths.specs.Taking.{IsOver, RowTakes, RuleTakes, scope_namespace}
 use Rattle.rbac_paths.specs.TakingOver.{TakesOver}
 use Rattle.rbac_paths.specs.Told.{HoldingTakes, HoldingsTake, IsFirstTold}
@@ -25,7 +25,7 @@ use Rattle.rbac_paths.specs.declared.table.Over.{Over}
 use Rattle.rbac_paths.specs.declared.table.Over.TheVariants as over
 
 -- what rows of a step say of a rule is what the table says
-pub may_take : (step : Step) (rows : List RowView) → AreOfStep step table rows → (rule : Rule) → Any (MatchesOverOthers rule) rows ↔ MayTakeBy rule step
+pub may_take : (step : Step) (rows : List StepRowView) → AreOfStep step table rows → (rule : Rule) → Any (MatchesOverOthers rule) rows ↔ MayTakeBy rule step
 unfolding MayTakeBy
 may_take step rows of rule = (
   λ a. (let there = (of a.1).0 (a.0, a.2, a.3) in any_from (λ row. (row.step ≡ step) × MatchesOverOthers rule row) table a.1 there.0 (there.1, a.4)),
@@ -50,7 +50,7 @@ over_nobody over.Everything counts y namespace own nobody is = tt
 over_nobody over.ClusterRoles counts y namespace own nobody is = tt
 over_nobody over.Roles counts y namespace own nobody is = tt
 
-matches : (h : HoldingView) (y : NodeView) (row : RowView) → IsNobody y → RowTakes row h.home h.rule y → MatchesOverOthers h.rule row
+matches : (h : HoldingView) (y : NodeView) (row : StepRowView) → IsNobody y → RowTakes row h.home h.rule y → MatchesOverOthers h.rule row
 matches h y row nobody w = (
   over_nobody row.over row.counts y w.namespace w.own nobody w.over,
   (

@@ -5,7 +5,7 @@ use Rattle.rbac_terms.specs.declared.matching.Rule.{Rule}
 use Rattle.rbac_model.proofs.OwnWords.{any_from}
 use Rattle.rbac_paths.specs.Rows.{AreOfStep, MatchesRow}
 use Rattle.rbac_paths.specs.SharedWords.{IsWordFor, LetsName, StepTakesWord, TakesWord}
-use Rattle.rbac_paths.specs.Steps.{RowView, table}
+use Rattle.rbac_paths.specs.Steps.{StepRowView, table}
 use Rattle.rbac_paths.specs.declared.steps.Step.{Step}
 use Rattle.rbac_paths.specs.declared.table.Names.{Names}
 use Rattle.rbac_paths.specs.declared.table.Names.TheVariants as names
@@ -21,7 +21,7 @@ module _ (rule : Rule) (n : Text) where
   only_own names.Own differ one = differ refl
   only_own names.Any differ one = elim one [ ]
 
-module _ (row : RowView) (home : Option Text) (rule : Rule) where
+module _ (row : StepRowView) (home : Option Text) (rule : Rule) where
   pub not_matching : (MatchesRow row rule → ⊥) → (w : Text) → TakesWord row home rule w → ⊥
   not_matching none w t = none t.0
 
@@ -45,7 +45,7 @@ module _ (row : RowView) (home : Option Text) (rule : Rule) where
   no_name differ none w (m, (Some n, l, word)) = only_own rule n row.names differ l
 
 -- what the rows of a step say of a word is what the table says
-pub step_rows : (step : Step) (rows : List RowView) → AreOfStep step table rows → (home : Option Text) (rule : Rule) (w : Text) → Any (λ row. TakesWord row home rule w) rows ↔ StepTakesWord home rule w step
+pub step_rows : (step : Step) (rows : List StepRowView) → AreOfStep step table rows → (home : Option Text) (rule : Rule) (w : Text) → Any (λ row. TakesWord row home rule w) rows ↔ StepTakesWord home rule w step
 step_rows step rows of home rule w = (
   λ a. (let there = (of a.1).0 (a.0, a.2, a.3) in any_from (λ row. (row.step ≡ step) × TakesWord row home rule w) table a.1 there.0 (there.1, a.4)),
   λ a. any_from (λ row. TakesWord row home rule w) rows a.1 ((of a.1).1 ((a.0, a.2, a.3), a.4.0)) a.4.1,

@@ -12,7 +12,7 @@ use Rattle.rbac_paths.specs.Nodes.{IsAccountNamed, Somebody}
 use Rattle.rbac_paths.specs.Rows.{HasRowResource, MatchesRow}
 use Rattle.rbac_paths.specs.SharedWords.{AreHadBy, IsWordFor, LetsName, TakesWord, account_words}
 use Rattle.rbac_paths.specs.SharedWords.{any_account, any_account_named, any_account_of, any_group, any_user, that_account, that_group, that_user}
-use Rattle.rbac_paths.specs.Steps.{IsNameAsked, RowView, asked_in}
+use Rattle.rbac_paths.specs.Steps.{IsNameAsked, StepRowView, asked_in}
 use Rattle.rbac_paths.specs.Taking.{IsOver, RowTakes}
 use Rattle.rbac_paths.specs.declared.table.Counts.{Counts}
 use Rattle.rbac_paths.specs.declared.table.Counts.TheVariants as counted
@@ -289,7 +289,7 @@ module _ (namespace own group text name : Text) where
 
 -- ---- a rule takes over whom it shares a word with
 
-module _ (row : RowView) (home : Option Text) (rule : Rule) (who : Who) (ws : List Text) (of : AreHadBy who ws) where
+module _ (row : StepRowView) (home : Option Text) (rule : Rule) (who : Who) (ws : List Text) (of : AreHadBy who ws) where
   by_word : (w : Text) → Contains ws w → TakesWord row home rule w → RowTakes row home rule (Somebody who)
   by_word w h (matches, (c, lets, is)) =
       let can = shared row.over row.counts home c who ws w of h is in

@@ -6,10 +6,10 @@ use Rattle.rbac_terms.specs.declared.matching.Rule.{Rule}
 use Rattle.rbac_model.specs.Policies.{Live}
 use Rattle.rbac_paths.specs.Asked.{AllowsRowFor}
 use Rattle.rbac_paths.specs.Nodes.{NodeView}
-use Rattle.rbac_paths.specs.Steps.{RowView, asked_in}
+use Rattle.rbac_paths.specs.Steps.{StepRowView, asked_in}
 use Rattle.rbac_paths.specs.Taking.{IsOver, RowTakes}
 
-module _ (row : RowView) (home : Option Text) (rule : Rule) (y : NodeView) (namespace own : Text)
+module _ (row : StepRowView) (home : Option Text) (rule : Rule) (y : NodeView) (namespace own : Text)
     (one : (n o : Text) → IsOver row.over row.counts y n o ↔ ((n ≡ namespace) × (o ≡ own))) where
   pub row_taken : (r : Bool) → ((text name : Text) → Live home (asked_in row.counts namespace) (Resource row.group text name)) → (IsTrue r ↔ AllowsRowFor row own rule) → IsTrue r ↔ RowTakes row home rule y
   row_taken r live allowed = (

@@ -10,7 +10,7 @@ use Rattle.rbac_model.proofs.OwnWords.{any_from}
 use Rattle.rbac_model.specs.Holders.{IsKeyFor, HasKey}
 use Rattle.rbac_model.proofs.KeyNames.{key_names, naming_key}
 use Rattle.rbac_paths.specs.Powers.{GivesStep, PowerView}
-use Rattle.rbac_paths.specs.Steps.{AllowsIn, AllowsRow, CountsIn, RowView, asked_in, steps, table}
+use Rattle.rbac_paths.specs.Steps.{AllowsIn, AllowsRow, CountsIn, StepRowView, asked_in, steps, table}
 use Rattle.rbac_paths.specs.Telling.{CanTake, AlsoHoldsIn, TellAll}
 use Rattle.rbac_paths.specs.declared.steps.Step.{Step}
 use Rattle.rbac_paths.specs.declared.steps.Step.TheVariants.{Impersonate, Token, Run, Exec, Secrets, Nodes, Bind, Escalate, Certificates, Webhooks}
@@ -31,13 +31,13 @@ in_steps Certificates = (8, omega arith, refl)
 in_steps Webhooks = (9, omega arith, refl)
 
 -- where a binding is live for a request of a row, the row counts, and what holds where the binding is holds there
-counts_there : (own : Option Text) (r : RowView) (place : Counts) (namespace verb text name : Text) → r.counts ≡ place → Live own (asked_in place namespace) (Resource r.group text name) → CountsIn r own × AlsoHoldsIn own namespace
+counts_there : (own : Option Text) (r : StepRowView) (place : Counts) (namespace verb text name : Text) → r.counts ≡ place → Live own (asked_in place namespace) (Resource r.group text name) → CountsIn r own × AlsoHoldsIn own namespace
 counts_there None r place namespace verb text name is live = (tt, tt)
 counts_there (Some own) r counted.ClusterWide namespace verb text name is live = absurd (live.0 refl)
 counts_there (Some own) r counted.InNamespaces namespace verb text name is live = ((is, λ e. live.0 (sym live.1 ∙ e)), live.1)
 
 -- where a row counts that is asked there, a binding is live
-live_there : (own : Option Text) (r : RowView) (namespace text name : Text) → AlsoHoldsIn own namespace → CountsIn r own → Live own (asked_in r.counts namespace) (Resource r.group text name)
+live_there : (own : Option Text) (r : StepRowView) (namespace text name : Text) → AlsoHoldsIn own namespace → CountsIn r own → Live own (asked_in r.counts namespace) (Resource r.group text name)
 live_there None r namespace text name holds counts = tt
 live_there (Some own) r namespace text name holds counts =
     let asked : asked_in r.counts namespace ≡ namespace = ap (λ (p : Counts). asked_in p namespace) counts.0 in

@@ -19,7 +19,7 @@ use Rattle.rbac_paths.specs.Having.{AreHoldings, HoldingView}
 use Rattle.rbac_paths.specs.Joints.{DecideOn, IsAboutNode}
 use Rattle.rbac_paths.specs.Nodes.{NodeView, Somebody, ClusterRoleIn, OwnRole, EverythingIn, node_of}
 use Rattle.rbac_paths.specs.Rows.{AreOfStep, HasRowResource, MatchesRow}
-use Rattle.rbac_paths.specs.Steps.{RowView, table}
+use Rattle.rbac_paths.specs.Steps.{StepRowView, table}
 use Rattle.rbac_paths.specs.Taking.{CanTakeOver, RowTakes, RuleTakes}
 use Rattle.rbac_paths.specs.Told.{HoldingTakes, HoldingsTake, grant_holding}
 use Rattle.rbac_paths.specs.declared.node.Node.{Node}
@@ -31,7 +31,7 @@ use Rattle.rbac_paths.proofs.GraphOf.{pushed}
 -- ---- which rules match
 
 -- what rows of a step say of a rule is what the table says
-pub matches_rows : (step : Step) (rows : List RowView) → AreOfStep step table rows → (rule : Rule) → Any (λ row. MatchesRow row rule) rows ↔ MatchesStep rule step
+pub matches_rows : (step : Step) (rows : List StepRowView) → AreOfStep step table rows → (rule : Rule) → Any (λ row. MatchesRow row rule) rows ↔ MatchesStep rule step
 unfolding MatchesStep
 matches_rows step rows of rule = (
   λ a. (let there = (of a.1).0 (a.0, a.2, a.3) in any_from (λ row. (row.step ≡ step) × MatchesRow row rule) table a.1 there.0 (there.1, a.4)),
@@ -39,7 +39,7 @@ matches_rows step rows of rule = (
 )
 
 -- a rule that takes over a node by a row matches the row
-row_matches : (row : RowView) (h : HoldingView) (y : NodeView) → RowTakes row h.home h.rule y → MatchesRow row h.rule
+row_matches : (row : StepRowView) (h : HoldingView) (y : NodeView) → RowTakes row h.home h.rule y → MatchesRow row h.rule
 row_matches row h y w = (
   any_from (VerbOk h.rule) row.verbs w.verb w.of_verbs w.allows.0,
   w.allows.1.0,

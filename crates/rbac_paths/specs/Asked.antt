@@ -5,7 +5,7 @@ use Rattle.rbac_terms.specs.Principals.{Who, AsUser, AsMember}
 use Rattle.rbac_terms.specs.Targets.{Resource}
 use Rattle.rbac_terms.specs.Matching.{NameMatches, RuleAllows}
 use Rattle.rbac_terms.specs.declared.matching.Rule.{Rule}
-use Rattle.rbac_paths.specs.Steps.{IsNameAsked, RowView}
+use Rattle.rbac_paths.specs.Steps.{IsNameAsked, StepRowView}
 use Rattle.rbac_paths.specs.declared.table.Names.{Names}
 use Rattle.rbac_paths.specs.declared.taking.Asked.{Asked}
 
@@ -26,7 +26,7 @@ abbrev pub HasRowNameFor : Names → Text → Rule → Type 0
 HasRowNameFor names own rule = (name : Text) × IsNameAsked names own name × NameMatches rule.resource_names name
 
 -- the rule allows some request of the row for what has that name
-pub record AllowsRowFor (r : RowView) (own : Text) (rule : Rule) : Type 0 where
+pub record AllowsRowFor (r : StepRowView) (own : Text) (rule : Rule) : Type 0 where
   pub verb : Text
   pub text : Text
   pub name : Text

@@ -9,7 +9,7 @@ use Rattle.rbac_paths.specs.Having.{HoldingView}
 use Rattle.rbac_paths.specs.Nodes.{NodeView, Somebody, ClusterRoleIn, OwnRole, EverythingIn}
 use Rattle.rbac_paths.specs.Rows.{MatchesRow}
 use Rattle.rbac_paths.specs.SharedWords.{AreHadBy}
-use Rattle.rbac_paths.specs.Steps.{RowView, table}
+use Rattle.rbac_paths.specs.Steps.{StepRowView, table}
 use Rattle.rbac_paths.specs.Taking.{CanTakeOver}
 use Rattle.rbac_paths.specs.TakingOver.{TakesOver}
 use Rattle.rbac_paths.specs.Told.{HoldingsTake}
@@ -52,7 +52,7 @@ IsOverNobody over.ClusterRoles = Unit {0}
 IsOverNobody over.Roles = Unit {0}
 
 -- the row is over roles or everything, and the rule matches it
-abbrev pub MatchesOverOthers : Rule → RowView → Type 0
+abbrev pub MatchesOverOthers : Rule → StepRowView → Type 0
 MatchesOverOthers rule row = IsOverNobody row.over × MatchesRow row rule
 
 -- some row of the step is so

@@ -3,13 +3,13 @@ use Rattle.std.specs.Prelude.{◌≡◌, ◌↔◌, ◌⊎◌, List, [], ◌∷�
 use Rattle.rbac_terms.specs.Text.{Text}
 use Rattle.rbac_terms.specs.Matching.{NameMatches, ResourceWordMatches, VerbOk, WordMatches}
 use Rattle.rbac_terms.specs.declared.matching.Rule.{Rule}
-use Rattle.rbac_paths.specs.Steps.{CanBeNamed, RowView}
+use Rattle.rbac_paths.specs.Steps.{CanBeNamed, StepRowView}
 use Rattle.rbac_paths.specs.declared.steps.Step.{Step}
 use Rattle.rbac_paths.specs.declared.table.Names.{Names}
 use Rattle.rbac_paths.specs.declared.table.Row.{Row}
 
 -- a row of the table
-abbrev pub row_view : Row → RowView
+abbrev pub row_view : Row → StepRowView
 row_view r = record {
   step = r.step;
   names = r.names;
@@ -25,7 +25,7 @@ abbrev pub HasRowResource : Rule → Text → Type 0
 HasRowResource rule text = Any (λ w. ResourceWordMatches w text) rule.resources
 
 -- the rule matches a verb, the API group and a resource of the row
-abbrev pub MatchesRow : RowView → Rule → Type 0
+abbrev pub MatchesRow : StepRowView → Rule → Type 0
 MatchesRow r rule = Any (VerbOk rule) r.verbs × Any (λ w. WordMatches w r.group) rule.groups
     × Any (HasRowResource rule) r.resources
 
@@ -34,10 +34,10 @@ abbrev pub HasRowName : Names → Rule → Type 0
 HasRowName names rule = (name : Text) × CanBeNamed names name × NameMatches rule.resource_names name
 
 -- exactly those of all rows that are of the step
-abbrev pub AreOfStep : Step → List RowView → List RowView → Type 0
-AreOfStep step all rows = (r : RowView) → Contains rows r ↔ (Contains all r × (r.step ≡ step))
+abbrev pub AreOfStep : Step → List StepRowView → List StepRowView → Type 0
+AreOfStep step all rows = (r : StepRowView) → Contains rows r ↔ (Contains all r × (r.step ≡ step))
 
 -- the row is added if it is of the step
-abbrev pub AddsRow : Step → RowView → List RowView → List RowView → Type 0
+abbrev pub AddsRow : Step → StepRowView → List StepRowView → List StepRowView → Type 0
 AddsRow step r old new = ((r.step ≡ step) × (new ≡ old ++ r ∷ []))
     ⊎ ((¬ (r.step ≡ step)) × (new ≡ old))

@@ -9,7 +9,7 @@ use Rattle.rbac_terms.specs.declared.matching.Rule.{Rule}
 use Rattle.rbac_paths.specs.Having.{HoldingView}
 use Rattle.rbac_paths.specs.Nodes.{IsAccountNamed}
 use Rattle.rbac_paths.specs.Rows.{MatchesRow}
-use Rattle.rbac_paths.specs.Steps.{RowView, table}
+use Rattle.rbac_paths.specs.Steps.{StepRowView, table}
 use Rattle.rbac_paths.specs.declared.steps.Step.{Step}
 use Rattle.rbac_paths.specs.declared.table.Counts.{Counts}
 use Rattle.rbac_paths.specs.declared.table.Counts.TheVariants as counted
@@ -87,7 +87,7 @@ IsWordFor over.Accounts counted.InNamespaces (Some home) (Some name) w =
 IsWordFor _ counts home name w = ⊥
 
 -- a rule takes the word by the row where a binding in that namespace, or in none, is live
-abbrev pub TakesWord : RowView → Option Text → Rule → Text → Type 0
+abbrev pub TakesWord : StepRowView → Option Text → Rule → Text → Type 0
 TakesWord row home rule w = MatchesRow row rule
     × ((name : Option Text) × LetsName row.names rule name
     × IsWordFor row.over row.counts home name w)

@@ -35,7 +35,7 @@ step_word Webhooks = codes "webhooks"
 
 -- a row of the table: each of some verbs on each of some resources of an API group, with which object
 -- name, in the whole cluster alone or also in a namespace, and what it takes over
-pub record RowView : Type 0 where
+pub record StepRowView : Type 0 where
   pub step : Step
   pub names : Names
   pub counts : Counts
@@ -44,7 +44,7 @@ pub record RowView : Type 0 where
   pub resources : List Text
   pub over : Over
 
-abbrev pub row : Step → Names → Counts → List Text → Text → List Text → Over → RowView
+abbrev pub row : Step → Names → Counts → List Text → Text → List Text → Over → StepRowView
 row step names counts verbs group resources over = record {
   step = step;
   names = names;
@@ -67,7 +67,7 @@ abbrev write : List Text
 write = codes "create" ∷ codes "update" ∷ codes "patch" ∷ []
 
 -- the table
-abbrev pub table : List RowView
+abbrev pub table : List StepRowView
 table =
     row Impersonate names.Own counted.ClusterWide (codes "impersonate" ∷ []) core
     (codes "users" ∷ []) over.Users
@@ -131,7 +131,7 @@ abbrev pub CanBeNamed : Names → Text → Type 0
 CanBeNamed names name = (own : Text) × IsNameAsked names own name
 
 -- the rule allows some request of the row
-pub record AllowsRow (r : RowView) (rule : Rule) : Type 0 where
+pub record AllowsRow (r : StepRowView) (rule : Rule) : Type 0 where
   pub verb : Text
   pub text : Text
   pub name : Text
@@ -142,10 +142,10 @@ pub record AllowsRow (r : RowView) (rule : Rule) : Type 0 where
 
 -- the row counts where a binding in that namespace, or in none, is live: in the whole cluster each
 -- row does; in the empty namespace no binding is live
-abbrev pub CountsIn : RowView → Option Text → Type 0
+abbrev pub CountsIn : StepRowView → Option Text → Type 0
 CountsIn r None = Unit {0}
 CountsIn r (Some namespace) = (r.counts ≡ counted.InNamespaces) × (namespace ≢ [])
 
 -- the rule allows some request of the row where a binding in that namespace, or in none, is live
-abbrev pub AllowsIn : Option Text → Rule → RowView → Type 0
+abbrev pub AllowsIn : Option Text → Rule → StepRowView → Type 0
 AllowsIn namespace rule row = CountsIn row namespace × AllowsRow row rule

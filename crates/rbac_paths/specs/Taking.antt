@@ -9,7 +9,7 @@ use Rattle.rbac_model.specs.Policies.{Live, PolicyView}
 use Rattle.rbac_paths.specs.Having.{NodeAllows}
 use Rattle.rbac_paths.specs.Nodes.{NodeView, Somebody, ClusterRoleIn, OwnRole, EverythingIn}
 use Rattle.rbac_paths.specs.Nodes.{IsAccountNamed}
-use Rattle.rbac_paths.specs.Steps.{IsNameAsked, RowView, asked_in, table}
+use Rattle.rbac_paths.specs.Steps.{IsNameAsked, StepRowView, asked_in, table}
 use Rattle.rbac_paths.specs.declared.steps.Step.{Step}
 use Rattle.rbac_paths.specs.declared.table.Counts.{Counts}
 use Rattle.rbac_paths.specs.declared.table.Counts.TheVariants as counted
@@ -43,7 +43,7 @@ IsOver _ _ _ namespace name = ⊥
 
 -- a rule that counts in that namespace, or, if there is none, in the whole cluster, allows some request
 -- of the row that takes over the node
-pub record RowTakes (row : RowView) (home : Option Text) (rule : Rule) (y : NodeView) : Type 0 where
+pub record RowTakes (row : StepRowView) (home : Option Text) (rule : Rule) (y : NodeView) : Type 0 where
   pub namespace : Text
   pub own : Text
   pub verb : Text
@@ -62,7 +62,7 @@ RuleTakes step home rule y = Any (λ row. (row.step ≡ step) × RowTakes row ho
 
 -- x allows a request of the step that takes over y
 pub record CanTakeOver (p : PolicyView) (x : NodeView) (step : Step) (y : NodeView) : Type 0 where
-  pub row : RowView
+  pub row : StepRowView
   pub namespace : Text
   pub own : Text
   pub verb : Text

@@ -6,13 +6,13 @@ use Rattle.rbac_terms.specs.Principals.{Who}
 use Rattle.rbac_model.specs.Policies.{Allows, PolicyView}
 use Rattle.rbac_model.specs.Holders.{IsKeyFor}
 use Rattle.rbac_paths.specs.Powers.{PowerView}
-use Rattle.rbac_paths.specs.Steps.{CanBeNamed, RowView, asked_in, table}
+use Rattle.rbac_paths.specs.Steps.{CanBeNamed, StepRowView, asked_in, table}
 use Rattle.rbac_paths.specs.declared.steps.Step.{Step}
 
 -- somebody is allowed some request of the step in that namespace, or, if it is the empty one, in the
 -- whole cluster
 pub record CanTake (p : PolicyView) (who : Who) (step : Step) (namespace : Text) : Type 0 where
-  pub row : RowView
+  pub row : StepRowView
   pub verb : Text
   pub text : Text
   pub name : Text

@@ -1,12 +1,11 @@
 //! What is asked for.
 
 ghost use Rattle.std.specs.Prelude.{◌↔◌, IsTrue};
-ghost use Rattle.std.specs.Option.{option_copied};
-ghost use Rattle.rbac_model.specs.Policies.{Live};
 ghost use Rattle.rbac_paths.specs.Access.{access_of};
 ghost use Rattle.rbac_paths.specs.Aims.{Serves, ToBeAllowed};
 
 use crate::holding::Holding;
+use rbac_model::is_live_at;
 use rbac_terms::{Target, Word, rule_allows};
 
 /// A verb on a target in a namespace, which somebody may be allowed. Outside all namespaces the
@@ -29,16 +28,5 @@ impl Access<'_> {
     {
         is_live_at(held.home, self.namespace, self.target)
             && rule_allows(held.rule, self.verb, self.target)
-    }
-}
-
-// Whether a binding in this namespace, or, if there is none, in the whole cluster, is live for the
-// target in the other one.
-fn is_live_at(home: Option<&Word>, namespace: &Word, target: &Target) -> bool
-    ensures { IsTrue result ↔ Live (option_copied home.entry) namespace.now target.now }
-{
-    match home {
-        None => true,
-        Some(own) => !target.is_url() && !namespace.is_empty() && own == namespace,
     }
 }

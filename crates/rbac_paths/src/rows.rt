@@ -35,9 +35,9 @@ pub(crate) struct WordRow {
 }
 
 impl Model for WordRow {
-    ghost use Rattle.rbac_paths.specs.Steps.{RowView};
+    ghost use Rattle.rbac_paths.specs.Steps.{StepRowView};
 
-    ghost Value = { RowView };
+    ghost Value = { StepRowView };
 
     ghost view = { λ r. record {
       step = r.step;

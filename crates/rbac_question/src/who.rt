@@ -8,7 +8,7 @@ ghost use Rattle.rbac_question.specs.Lines.{groups_given, is_not_empty, names_in
 ghost use Rattle.rbac_question.specs.Lines.{NamesPrincipal, HasBadPrincipal, RefusesWho};
 
 use crate::fault::QuestionFault;
-use rbac_terms::{ModelFault, Principal, Word, Words};
+use rbac_terms::{MEMBER_PREFIX, ModelFault, Principal, USER_PREFIX, Word, Words};
 use std::alloc::{AllocError, Global};
 use std::marker::Model;
 
@@ -37,12 +37,6 @@ impl<'m, 'a> Model for WhoLine<'m, 'a> {
       whole_groups = names_in (option_map (λ names. map (λ n. n.now) names.now) l.whole_groups);
     } };
 }
-
-// The mark of a user's key.
-const USER: &[u8] = b"u:";
-
-// The mark of the key of a member of a group.
-const MEMBER: &[u8] = b"g:";
 
 // The groups that `--groups` and `--group` give: the parts of the first between commas, and then each
 // of the others whole, in order, without those that are empty (own).
@@ -173,10 +167,10 @@ pub(crate) fn principal_of(alloc: Global, who: &WhoLine<'_, '_>) -> Result<Princ
     ensures answer { MatchResult result (NamesPrincipal who.now) (RefusesWho who.now) }
     ensures unnamed { HasBadPrincipal who.now → result ≡ Err QuestionFault.BadPrincipal }
 {
-    if let Some(user) = name_behind(USER, who.key) {
+    if let Some(user) = name_behind(USER_PREFIX, who.key) {
         return principal_from(alloc, user, who.groups, who.whole_groups);
     }
-    match name_behind(MEMBER, who.key) {
+    match name_behind(MEMBER_PREFIX, who.key) {
         Some(group) if lacks_groups(who) => member_from(alloc, group),
         _ => Err(QuestionFault::BadPrincipal),
     }
@@ -187,8 +181,8 @@ pub(crate) fn check_who(who: &WhoLine<'_, '_>) -> Result<(), QuestionFault>
     ensures answer { MatchResult result (λ _. ¬ HasBadPrincipal who.now)
         (λ e. (e ≡ QuestionFault.BadPrincipal) × HasBadPrincipal who.now) }
 {
-    let is_user = name_behind(USER, who.key).is_some();
-    let is_member = name_behind(MEMBER, who.key).is_some() && lacks_groups(who);
+    let is_user = name_behind(USER_PREFIX, who.key).is_some();
+    let is_member = name_behind(MEMBER_PREFIX, who.key).is_some() && lacks_groups(who);
     if is_user || is_member {
         return Ok(());
     }

@@ -30,7 +30,7 @@ pub(crate) struct OrderedRule<'a> {
 impl<'a> Model for OrderedRule<'a> {
     ghost use Rattle.std.specs.Prelude.{◌≡◌};
     ghost use Rattle.rbac_terms.specs.declared.matching.Rule.{Rule};
-    ghost use Rattle.rbac_terms.specs.Sorted.{AreInOrder};
+    ghost use Rattle.rbac_terms.specs.Sorted.{IsSortedCopy};
     ghost use Rattle.rbac_reaches.specs.Wildcards.{AreSubresources, AreUrlPrefixes};
 
     ghost Value = { Rule };
@@ -38,7 +38,7 @@ impl<'a> Model for OrderedRule<'a> {
     ghost view = { λ o. o.rule.now };
 
     ghost invariant = { λ o. (o.groups ≡ o.rule.now.groups) × (o.resources ≡ o.rule.now.resources)
-        × (o.urls ≡ o.rule.now.urls) × AreInOrder o.rule.now.resource_names o.names.items
+        × (o.urls ≡ o.rule.now.urls) × IsSortedCopy o.rule.now.resource_names o.names.items
         × AreSubresources o.rule.now.resources o.subresources.items
         × AreUrlPrefixes o.rule.now.urls o.url_prefixes.items };
 }

@@ -23,8 +23,8 @@ pub record LeftView : Type 0 where
   pub grants : List GrantView
 
 -- these rules are left
-abbrev pub AreLeft : LeftView → List RuleView → Type 0
-AreLeft v xs = AreRulesBy v.who v.scope v.grants xs
+abbrev pub AreRulesLeft : LeftView → List RuleView → Type 0
+AreRulesLeft v xs = AreRulesBy v.who v.scope v.grants xs
 
 -- x was the first rule that was left, with the place of its binding, and the others are left now
 pub record IsTaken (old new : LeftView) (x : EffectiveRule) : Type 0 where
@@ -33,13 +33,13 @@ pub record IsTaken (old new : LeftView) (x : EffectiveRule) : Type 0 where
   pub bindings : new.bindings ≡ old.bindings
   pub place : slice_get old.bindings x.grant.binding_place ≡ Some x.grant.binding.now
   pub fewer : length new.grants < length old.grants
-  pub left : (all : List RuleView) → AreLeft old all
-      ↔ ((others : List RuleView) × (all ≡ rule_shown x ∷ others) × AreLeft new others)
+  pub left : (all : List RuleView) → AreRulesLeft old all
+      ↔ ((others : List RuleView) × (all ≡ rule_shown x ∷ others) × AreRulesLeft new others)
 
 -- a call gave the first of the rules that were left, or nothing if none was left
 abbrev pub GivesRule : LeftView → Option EffectiveRule → LeftView → Type 0
 GivesRule old r new =
-    MatchOption r (AreLeft old [] × (new ≡ old)) (λ x. IsTaken old new x)
+    MatchOption r (AreRulesLeft old [] × (new ≡ old)) (λ x. IsTaken old new x)
 
 -- how many grants haven't been passed; at most as many rules are left
 abbrev pub rules_left_at_most : LeftView → Count

@@ -5,12 +5,9 @@ ghost use Rattle.rbac_terms.specs.Text.{Text, text_cmp};
 ghost use Rattle.rbac_model.specs.Holders.{IsKeyFor};
 
 use arrayvec::{ArrayVec, IntoIter};
-use rbac_terms::{Principal, Word};
+use rbac_terms::{MEMBER_PREFIX, Principal, Word};
 use std::cmp::Ordering;
 use std::marker::Model;
-
-// The prefix of the key of a group's members.
-const MEMBER: &[u8] = b"g:";
 
 // The key of the members of the group of all service accounts.
 const ACCOUNTS: &[u8] = b"g:system:serviceaccounts";
@@ -84,7 +81,7 @@ pub(crate) fn keys_of(principal: &Principal) -> PrincipalKeys<'_>
         implied.push(PrincipalKey::new(ACCOUNTS_OF, namespace));
     }
     if let Some(group) = principal.sign_in_group() {
-        implied.push(PrincipalKey::new(MEMBER, group));
+        implied.push(PrincipalKey::new(MEMBER_PREFIX, group));
     }
     PrincipalKeys {
         implied: implied.into_iter(),
@@ -107,6 +104,6 @@ impl<'a> Iterator for PrincipalKeys<'a> {
         }
         let (group, others) = self.given.split_first()?;
         self.given = others;
-        Some(PrincipalKey::new(MEMBER, group.as_bytes()))
+        Some(PrincipalKey::new(MEMBER_PREFIX, group.as_bytes()))
     }
 }

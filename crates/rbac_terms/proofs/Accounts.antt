@@ -3,7 +3,7 @@ use Rattle.std.proofs.Common.{◌≡◌, List, [], ◌∷◌, ◌++◌, sym, ap,
 use Rattle.std.specs.Prelude.{codes}
 use Rattle.std.proofs.lemmas.List.{append_cancel_left}
 use Rattle.rbac_terms.specs.Text.{Text, colon, IsCutAtFirst, BeginsWith}
-use Rattle.rbac_terms.specs.Principals.{Who, AsUser, who_of, name_of, account_user, IsPart, IsAccountOf, IsAccountGroup, IsGroupOfAccounts}
+use Rattle.rbac_terms.specs.Principals.{Who, AsUser, who_of, who_name, account_user, IsPart, IsAccountOf, IsAccountGroup, IsGroupOfAccounts}
 use Rattle.rbac_terms.proofs.Texts.{IsCutAtFirst-one, IsCutAtFirst-prefix, IsCutAtFirst-contains}
 
 -- what follows the prefix of such a name
@@ -62,6 +62,6 @@ IsAccountGroup-iff user namespace g r a i = (
 )
 
 -- what is marked as a user is the user of its name
-pub as_user : (b : Bool) (key : Text) (given : List Text) (who : Who) (user : Text) → who_of b key given ≡ who → b ≡ true → user ≡ name_of who → AsUser user given ≡ who
-as_user true key given who user e h n = ap (λ u. AsUser u given) (n ∙ ap name_of (sym e)) ∙ e
+pub as_user : (b : Bool) (key : Text) (given : List Text) (who : Who) (user : Text) → who_of b key given ≡ who → b ≡ true → user ≡ who_name who → AsUser user given ≡ who
+as_user true key given who user e h n = ap (λ u. AsUser u given) (n ∙ ap who_name (sym e)) ∙ e
 as_user false key given who user e h n = cc

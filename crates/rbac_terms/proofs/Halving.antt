@@ -8,7 +8,7 @@ use Rattle.std.proofs.lemmas.Cmp.{nat_list_cmp_total, tied_itself}
 use Rattle.std.proofs.lemmas.List.Sorted.{searchable_from_sorted, Contains-permutation, IsPermutation-sym}
 use Rattle.std.proofs.lemmas.Map.Lookups.{exact_bytes}
 use Rattle.rbac_terms.specs.Text.{Text, text_cmp}
-use Rattle.rbac_terms.specs.Sorted.{AreInOrder}
+use Rattle.rbac_terms.specs.Sorted.{IsSortedCopy}
 
 -- what is looked for is there where an equal text is found, and isn't where none is
 pub found_iff : (xs : List Text) (t : Text) (r : Result ℕ ℕ) → IsSorted text_cmp xs → IsSearchInRange r (length xs) → IsBinarySearchResult (λ y. text_cmp y t) xs r → IsTrue (is_ok r) ↔ Contains xs t
@@ -28,7 +28,7 @@ found_iff xs t (Err i) sorted within at =
     )
 
 -- the sorted groups are the groups
-pub among_iff : (given sorted : List Text) (g : Text) (P : Type 0) → AreInOrder given sorted → (P ↔ Contains sorted g) → P ↔ Contains given g
+pub among_iff : (given sorted : List Text) (g : Text) (P : Type 0) → IsSortedCopy given sorted → (P ↔ Contains sorted g) → P ↔ Contains given g
 among_iff given sorted g P o i = (
   λ p. Contains-permutation sorted given g (IsPermutation-sym given sorted o.1) (i.0 p),
   λ w. i.1 (Contains-permutation given sorted g o.1 w),

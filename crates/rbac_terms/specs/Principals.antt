@@ -66,9 +66,9 @@ IsInGroup (AsUser name given) g = Contains given g ⊎ IsImpliedGroup name given
 IsInGroup (AsMember group) g = g ≡ group
 
 -- the name in the key: the user's, or the group's (own)
-abbrev pub name_of : Who → Text
-name_of (AsUser name given) = name
-name_of (AsMember group) = group
+abbrev pub who_name : Who → Text
+who_name (AsUser name given) = name
+who_name (AsMember group) = group
 
 -- the groups that a user is given; a member of one group is given none (own)
 abbrev pub given_of : Who → List Text

@@ -14,8 +14,8 @@ unfoldable pub HasLabel : LabelTexts → Text → Text → Type 0
 HasLabel labels key value = Contains labels (key, value)
 
 -- some label has the key (Labels and Selectors, set-based requirements)
-abbrev pub HasKey : LabelTexts → Text → Type 0
-HasKey labels key = Any (λ label. label.0 ≡ key) labels
+abbrev pub HasLabelKey : LabelTexts → Text → Type 0
+HasLabelKey labels key = Any (λ label. label.0 ≡ key) labels
 
 -- some label has the key and one of the values (Labels and Selectors, set-based requirements)
 abbrev pub HasOneOf : LabelTexts → Text → List Text → Type 0
@@ -27,8 +27,8 @@ HasOneOf labels key values = Any (λ label. (label.0 ≡ key) × Contains values
 abbrev pub MeetsOp : SelectOp → Text → List Text → LabelTexts → Type 0
 MeetsOp OneOf key values labels = HasOneOf labels key values
 MeetsOp NoneOf key values labels = ¬ HasOneOf labels key values
-MeetsOp Present key values labels = HasKey labels key
-MeetsOp Absent key values labels = ¬ HasKey labels key
+MeetsOp Present key values labels = HasLabelKey labels key
+MeetsOp Absent key values labels = ¬ HasLabelKey labels key
 
 -- labels meet a requirement: they meet its operator with its key and values (Labels and Selectors,
 -- set-based requirements)

@@ -20,13 +20,13 @@ pub(crate) struct GivenGroups {
 
 impl Model for GivenGroups {
     ghost use Rattle.std.specs.Prelude.{ℕ, List, MatchOption, ⊤};
-    ghost use Rattle.rbac_terms.specs.Sorted.{AreInOrder};
+    ghost use Rattle.rbac_terms.specs.Sorted.{IsSortedCopy};
 
     ghost Value = { List (List ℕ) };
 
     ghost view = { λ g. g.given };
 
-    ghost invariant = { λ g. MatchOption g.sorted ⊤ (λ sorted. AreInOrder g.given sorted.items) };
+    ghost invariant = { λ g. MatchOption g.sorted ⊤ (λ sorted. IsSortedCopy g.given sorted.items) };
 }
 
 impl GivenGroups {

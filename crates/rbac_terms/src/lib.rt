@@ -1,6 +1,6 @@
 //! The terms of role-based access control (texts, rules, subjects, principals, targets, selectors,
 //! keys), and what each of them matches. `rbac_model` builds policies from them and re-exports
-//! their names.
+//! their names. Where a comment says "(own)", the rule is this project's and not one of Kubernetes.
 #![tactic(auto)]
 
 mod fault;
@@ -29,7 +29,10 @@ pub use matching::{
     Rule, Rules, before_stars, group_matches, name_matches, resource_matches, rule_allows,
     target_matches, url_matches, verb_matches,
 };
-pub use request::{Principal, Target, account_user, is_path, is_resource_text};
+pub use request::{
+    ANONYMOUS, AUTHENTICATED, MEMBER_PREFIX, Principal, Target, UNAUTHENTICATED, USER_PREFIX,
+    account_user, is_path, is_resource_text,
+};
 pub use scope::Scope;
 pub use selecting::{Labels, Requirement, Requirements, SelectOp, Selector, Selectors, selects};
 pub use sorted::{is_among, sorted_copy};

@@ -5,7 +5,7 @@ ghost use Rattle.std.specs.Prelude.{MatchOption, IfOk, IfErr, OnOk, OnErr, Conta
 ghost use Rattle.rbac_terms.specs.Text.{Text};
 ghost use Rattle.rbac_terms.specs.Targets.{Resource, Url, IsProper, IsUrl, IsResource, group_of};
 ghost use Rattle.rbac_terms.specs.Targets.{text_of, name_of, IsPath, IsResourceText, is_path};
-ghost use Rattle.rbac_terms.specs.Principals.{AsUser, AsMember, who_key, name_of as who_name};
+ghost use Rattle.rbac_terms.specs.Principals.{AsUser, AsMember, who_key, who_name};
 ghost use Rattle.rbac_terms.specs.Principals.{given_of, IsUserNamed, IsInGroup, account_user};
 ghost use Rattle.rbac_terms.specs.Principals.{account_principal};
 ghost use Rattle.rbac_terms.specs.Principals.{IsAccountOf, IsAccountGroup, IsGroupOfAccounts};
@@ -18,11 +18,11 @@ use crate::text::{Word, Words, after_prefix, cut_at_first, is_joined};
 use std::alloc::{AllocError, Global};
 use std::marker::Model;
 
-// The prefix of a user's key.
-const USER: &[u8] = b"u:";
+/// The prefix of a user's key (own).
+pub const USER_PREFIX: &[u8] = b"u:";
 
-// The prefix of the key of a member of a group.
-const MEMBER: &[u8] = b"g:";
+/// The prefix of the key of a member of a group (own).
+pub const MEMBER_PREFIX: &[u8] = b"g:";
 
 // The separator of the parts of a service account's user name.
 const COLON: &[u8] = b":";
@@ -36,14 +36,14 @@ const ACCOUNTS: &[u8] = b"system:serviceaccounts";
 // The prefix of the group of a namespace's service accounts.
 const ACCOUNTS_OF: &[u8] = b"system:serviceaccounts:";
 
-// The user of a request without credentials.
-const ANONYMOUS: &[u8] = b"system:anonymous";
+/// The user of a request without credentials (Authenticating, "Anonymous requests").
+pub const ANONYMOUS: &[u8] = b"system:anonymous";
 
-// The group of the users who have signed in.
-const AUTHENTICATED: &[u8] = b"system:authenticated";
+/// The group of the users who have signed in (Using RBAC Authorization, "Discovery roles").
+pub const AUTHENTICATED: &[u8] = b"system:authenticated";
 
-// The group of the users who haven't signed in.
-const UNAUTHENTICATED: &[u8] = b"system:unauthenticated";
+/// The group of the users who haven't signed in (Authenticating, "Anonymous requests").
+pub const UNAUTHENTICATED: &[u8] = b"system:unauthenticated";
 
 /// What a request is for: a resource by API group, resource text and object name, or a URL by its
 /// path. A resource text isn't empty and doesn't begin with a slash; a URL begins with one (own,
@@ -169,14 +169,14 @@ pub struct Principal {
 
 impl Model for Principal {
     ghost use Rattle.std.specs.Prelude.{◌≡◌, ◌≢◌, []};
-    ghost use Rattle.rbac_terms.specs.Principals.{Who, who_of, who_key, name_of};
+    ghost use Rattle.rbac_terms.specs.Principals.{Who, who_of, who_key, who_name};
 
     ghost Value = { Who };
 
     ghost view = { λ p. who_of p.is_user p.key p.given };
 
     ghost invariant = { λ p. (p.key ≡ who_key (who_of p.is_user p.key p.given))
-        × (name_of (who_of p.is_user p.key p.given) ≢ []) };
+        × (who_name (who_of p.is_user p.key p.given) ≢ []) };
 }
 
 impl Principal {
@@ -190,7 +190,7 @@ impl Principal {
     {
         Ok(Principal {
             is_user: true,
-            key: named_key(alloc, USER, name)?,
+            key: named_key(alloc, USER_PREFIX, name)?,
             given: GivenGroups::of(given)?,
         })
     }
@@ -205,7 +205,7 @@ impl Principal {
     {
         Ok(Principal {
             is_user: false,
-            key: named_key(alloc, MEMBER, name)?,
+            key: named_key(alloc, MEMBER_PREFIX, name)?,
             given: GivenGroups::new(alloc),
         })
     }
@@ -255,6 +255,18 @@ impl Principal {
     {
         let key = self.key.as_bytes();
         &key[2..]
+    }
+
+    /// The group whose member this is; `None` for a user (own). Doesn't allocate.
+    pub fn member_of(&self) -> Option<&[u8]>
+        ensures { MatchOption result ((group : Text) → ¬ (self.now ≡ AsMember group))
+            (λ group. self.now ≡ AsMember group.now) }
+    {
+        if self.is_user {
+            None
+        } else {
+            Some(self.name())
+        }
     }
 
     // Whether this is the user of that name, whatever its groups. Doesn't allocate.
@@ -353,14 +365,14 @@ fn with_prefix(alloc: Global, prefix: &[u8], name: &Word) -> Result<Word, AllocE
 pub(crate) fn user_key(alloc: Global, name: &Word) -> Result<Word, AllocError>
     ensures { IfOk result (λ key. key ≡ who_key (AsUser name.now [])) }
 {
-    with_prefix(alloc, USER, name)
+    with_prefix(alloc, USER_PREFIX, name)
 }
 
 // The key of a member of the group of this name.
 pub(crate) fn member_key(alloc: Global, name: &Word) -> Result<Word, AllocError>
     ensures { IfOk result (λ key. key ≡ who_key (AsMember name.now)) }
 {
-    with_prefix(alloc, MEMBER, name)
+    with_prefix(alloc, MEMBER_PREFIX, name)
 }
 
 /// The user name of a service account, `system:serviceaccount:NAMESPACE:NAME` (Using RBAC

@@ -1,7 +1,7 @@
 //! Labels, and what selects by them.
 
 ghost use Rattle.std.specs.Prelude.{IsTrue, ◌↔◌, All};
-ghost use Rattle.rbac_terms.specs.Selecting.{Selects, Meets, HasLabel, HasKey, HasOneOf};
+ghost use Rattle.rbac_terms.specs.Selecting.{Selects, Meets, HasLabel, HasLabelKey, HasOneOf};
 
 use crate::items::Items;
 use crate::text::{Word, Words};
@@ -91,7 +91,7 @@ fn meets(requirement: &Requirement, labels: &Labels) -> bool
 
 // Whether there is a label with this key.
 fn has_key(labels: &Labels, key: &Word) -> bool
-    ensures { IsTrue result ↔ HasKey labels.now key.now }
+    ensures { IsTrue result ↔ HasLabelKey labels.now key.now }
 {
     labels.as_slice().iter().any(|label| label.0 == *key)
 }

@@ -3,14 +3,14 @@
 ghost use Rattle.std.specs.Prelude.{◌↔◌, IsTrue, IfOk, Contains};
 ghost use Rattle.std.specs.List.Sorted.{IsSorted};
 ghost use Rattle.rbac_terms.specs.Text.{text_cmp};
-ghost use Rattle.rbac_terms.specs.Sorted.{AreInOrder};
+ghost use Rattle.rbac_terms.specs.Sorted.{IsSortedCopy};
 
 use crate::text::{Word, Words};
 use std::alloc::AllocError;
 
 /// Copies of the texts in byte order, with their repeats. Fails only if it runs out of memory.
 pub fn sorted_copy(words: &Words) -> Result<Vec<Word>, AllocError>
-    ensures { IfOk result (λ sorted. AreInOrder words.now sorted.items) }
+    ensures { IfOk result (λ sorted. IsSortedCopy words.now sorted.items) }
 {
     let mut sorted = words.clone()?.into_vec();
     sorted.sort_unstable();

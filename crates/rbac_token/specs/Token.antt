@@ -5,7 +5,7 @@ use Rattle.base64.specs.Engines.{url_safe_no_pad}
 use Rattle.base64.specs.GeneralPurpose.{IsBytes, encode_of}
 use Rattle.rbac_terms.specs.Text.{Text, BeginsWith}
 use Rattle.rbac_terms.specs.Keys.{KeyTexts, texts, key_of}
-use Rattle.rbac_terms.specs.Principals.{Who, who_key, name_of}
+use Rattle.rbac_terms.specs.Principals.{Who, who_key, who_name}
 use Rattle.rbac_terms.specs.Targets.{What, IsProper}
 use Rattle.rbac_text.specs.Field.{field_text}
 use Rattle.rbac_text.specs.Row.{tab}
@@ -24,7 +24,7 @@ token_text k = encode_of url_safe_no_pad (printed_key k)
 
 -- a principal has a name
 abbrev pub HasName : Who → Type 0
-HasName who = name_of who ≢ []
+HasName who = who_name who ≢ []
 
 -- `u:` or `g:` and a name
 abbrev pub IsWhoKey : Text → Type 0

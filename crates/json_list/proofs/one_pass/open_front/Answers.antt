@@ -2,7 +2,7 @@ use Rattle.std.proofs.Common.{◌≡◌, ◌∷◌, ap, arith}
 use Rattle.json.specs.Lex.{tokens}
 use Rattle.json.specs.Token.{Token}
 use Rattle.serde_json.specs.View.{members_view}
-use Rattle.json_list.specs.Places.{IsBefore, HasOneList}
+use Rattle.json_list.specs.Places.{IsUpToItems, HasOneList}
 use Rattle.json_list.proofs.Whole.{read_up_to, list_up_to, no_object, no_list, refused}
 use Rattle.json_list.proofs.one_pass.open_front.Goals as goal
 
@@ -11,7 +11,7 @@ returns-clause-front c =
     let ts = c.in-Some.reader in
     let before = members_view c.read_before.new.members.entries in
     let begin : tokens c.args.text.now ≡ Token.begin_object ∷ ts = grind arith in
-    let are : IsBefore ts before c.read_before.new.reader = rw c.if-not-branch.false at c.in_ok-read_before.ensures.before in
+    let are : IsUpToItems ts before c.read_before.new.reader = rw c.if-not-branch.false at c.in_ok-read_before.ensures.before in
     read_up_to c.args.text.now ts begin before c.read_before.new.reader are
 
 pub returns-clause-list : goal.returns-clause-list
@@ -19,7 +19,7 @@ returns-clause-list c =
     let ts = c.in-Some.reader in
     let before = members_view c.read_before.new.members.entries in
     let begin : tokens c.args.text.now ≡ Token.begin_object ∷ ts = grind arith in
-    let are : IsBefore ts before c.read_before.new.reader = rw c.if-not-branch.false at c.in_ok-read_before.ensures.before in
+    let are : IsUpToItems ts before c.read_before.new.reader = rw c.if-not-branch.false at c.in_ok-read_before.ensures.before in
     list_up_to c.args.text.now ts begin before c.read_before.new.reader are
 
 pub returns-in_default-clause-front : goal.returns-in_default-clause-front

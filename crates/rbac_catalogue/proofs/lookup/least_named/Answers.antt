@@ -2,14 +2,14 @@ use Rattle.std.proofs.Common.{◌≡◌, ◌+◌, [], ◌∷◌, ◌++◌, take,
 use Rattle.std.specs.Option.{option_copied}
 use Rattle.std.proofs.lemmas.Bool.{false≢true}
 use Rattle.std.proofs.lemmas.List.{take_more}
-use Rattle.rbac_catalogue.specs.Lookups.{IsNamedIn}
+use Rattle.rbac_catalogue.specs.Lookups.{IsNamedInGroup}
 use Rattle.rbac_catalogue.proofs.Least.{IsLeastSoFar, taken, stayed}
 use Rattle.rbac_catalogue.proofs.lookup.least_named.Goals as goal
 use Rattle.rbac_catalogue.proofs.lookup.least_named.Goals.{then-is_named_in+then-comes_before, else-is_named_in, else-is_named_in-via-then-is_named_in+else-comes_before, else-is_named_in-via-else-is_named_in}
 
 pub loop-entry-preserved : goal.loop-entry-preserved
 loop-entry-preserved c =
-    let P = IsNamedIn (option_copied c.args.group) c.args.word.now in
+    let P = IsNamedInGroup (option_copied c.args.group) c.args.word.now in
     let xs = take c.loop-entry.entry-index c.args.entries.now in
     let x = c.entry-item.result in
     let least = option_copied c.loop-entry.least in

@@ -2,12 +2,12 @@ use Rattle.std.proofs.Common.{◌<◌, List, length, ap, sym, ◌∙◌, subst}
 use Rattle.std.specs.Prelude.{IfSome}
 use Rattle.rbac_terms.specs.Text.{Text}
 use Rattle.rbac_lint.specs.declared.prefixes.Prefix.{Prefix}
-use Rattle.rbac_lint.specs.Prefixes.{LinksTo, AreLinked}
+use Rattle.rbac_lint.specs.Prefixes.{LinksTo, AreLinkedPrefixes}
 use Rattle.rbac_lint.proofs.Linked.{last_leads, puts}
 use Rattle.rbac_lint.proofs.prefixes.push_prefix.Goals as goal
 
 pub longest_from-shorter-requires-clause-linked : goal.longest_from-shorter-requires-clause-linked
-longest_from-shorter-requires-clause-linked c = subst AreLinked (sym c.as_slice.ensures.value) c.requires.prefixes.linked
+longest_from-shorter-requires-clause-linked c = subst AreLinkedPrefixes (sym c.as_slice.ensures.value) c.requires.prefixes.linked
 
 pub longest_from-shorter-requires-clause-leads : goal.longest_from-shorter-requires-clause-leads
 longest_from-shorter-requires-clause-leads c =

@@ -10,12 +10,11 @@ returns-then-are_all c =
     let past : length runs.kept.items ≤ c.args.walk.now.later = omega (arith, ap length c.kept-kept.ensures, c.if-walk-kept.false) in
     record { found = none_later c.args.index.now (line_of c.args.line) runs c.args.walk.now.later past c.args.walk.now.end c.requires (sym c.are_all.ensures ∙ c.if-are_all.true) }
 
-pub returns-in_err-start : goal.returns-in_err-start
-unfolding IsBoundOn
-returns-in_err-start c = record { found = rw (c.from_residual.ensures, ← c.subjects-subjects.ensures) c.in_err-start.ensures }
+pub returns-in_err-run : goal.returns-in_err-run
+returns-in_err-run c = record { found = rw c.from_residual.ensures c.in_err-run.found }
 
 pub returns : goal.returns
 returns c =
     let runs = c.args.runs.now in
     let past : length runs.kept.items ≤ c.args.walk.now.later = omega (arith, ap length c.kept-kept.ensures, c.if-walk-kept.false) in
-    record { found = record { next = rw (← c.subjects-subjects.ensures) c.in_ok-start.ensures; later = some_later c.args.index.now (line_of c.args.line) runs c.args.walk.now.later past c.in_ok-start.end (sym c.are_all.ensures ∙ c.if-are_all.false); same = refl } }
+    record { found = record { next = c.in_ok-run.found; later = some_later c.args.index.now (line_of c.args.line) runs c.args.walk.now.later past c.in_ok-run.end (sym c.are_all.ensures ∙ c.if-are_all.false); same = refl } }

@@ -7,7 +7,7 @@ use Rattle.rbac_model.specs.Policies.{Held}
 use Rattle.rbac_paths.specs.BoundNames.{BindsNamed}
 use Rattle.rbac_paths.specs.Rows.{AreOfStep}
 use Rattle.rbac_paths.specs.SharedWords.{AddsWords}
-use Rattle.rbac_paths.specs.Steps.{RowView, table}
+use Rattle.rbac_paths.specs.Steps.{StepRowView, table}
 use Rattle.rbac_paths.specs.declared.steps.Step.TheVariants.{Bind}
 use Rattle.rbac_paths.proofs.BoundNames.{AddsOfClusterRoles, AddsOfRoles, names_are}
 use Rattle.rbac_paths.proofs.WordsAdded.{adds_each, adds_first, adds_more}
@@ -17,7 +17,7 @@ abbrev OfRules : List Rule → List Text → List Text → Type 0
 OfRules rules old new = AddsWords (λ name. Any (λ rule. BindsNamed rule name) rules) old new
 
 pub add_names-requires : goal.add_names-requires
-add_names-requires c = subst (λ (rows : List RowView). AreOfStep Bind table rows) (sym c.as_slice.ensures.value) c.in_ok-rows.ensures
+add_names-requires c = subst (λ (rows : List StepRowView). AreOfStep Bind table rows) (sym c.as_slice.ensures.value) c.in_ok-rows.ensures
 
 pub loop-role-preserved : goal.loop-role-preserved
 loop-role-preserved c =
@@ -37,7 +37,7 @@ loop-role-2-init c =
     )
 
 pub add_names-requires-in-loop-role-2 : goal.add_names-requires-in-loop-role-2
-add_names-requires-in-loop-role-2 c = subst (λ (rows : List RowView). AreOfStep Bind table rows) (sym c.as_slice-in-loop-role-2.ensures.value) c.in_ok-rows.ensures
+add_names-requires-in-loop-role-2 c = subst (λ (rows : List StepRowView). AreOfStep Bind table rows) (sym c.as_slice-in-loop-role-2.ensures.value) c.in_ok-rows.ensures
 
 pub loop-role-2-preserved : goal.loop-role-2-preserved
 loop-role-2-preserved c =

@@ -1,7 +1,7 @@
 use Rattle.std.proofs.Common.{◌≡◌, ◌+◌, ◌≤◌, ◌∙◌, arith, inl, inr, length, refl, subst, sym}
 use Rattle.std.specs.Prelude.{slice_range}
 use Rattle.rbac_terms.specs.Text.{Text}
-use Rattle.rbac_terms.specs.Principals.{name_of}
+use Rattle.rbac_terms.specs.Principals.{who_name}
 use Rattle.rbac_paths.specs.Nodes.{IsAccountNamed}
 use Rattle.rbac_paths.proofs.Accounts.{in_named, name_is, name_long, named_in}
 use Rattle.rbac_paths.proofs.taking.account_parts.Goals as goal
@@ -14,7 +14,7 @@ returns-in_err-parts c = rw c.from_residual-in_err-parts.ensures (λ n m a.
     let own = c.in_ok-namespace.namespace.now in
     let same : n ≡ own = (c.in_ok-namespace.ensures n).0 (named_in c.args.who.now n m a) in
     let long = name_long c.args.who.now n m a in
-    let there : 22 + length own + 1 ≤ length c.name.result.now = subst (λ (t : Text). 22 + length own + 1 ≤ length t) (sym c.name.ensures.name) (subst (λ (t : Text). 22 + length t + 1 ≤ length (name_of c.args.who.now)) same long) in
+    let there : 22 + length own + 1 ≤ length c.name.result.now = subst (λ (t : Text). 22 + length own + 1 ≤ length t) (sym c.name.ensures.name) (subst (λ (t : Text). 22 + length t + 1 ≤ length (who_name c.args.who.now)) same long) in
     elim c.in_err-parts.ensures.lookup.0 [
       | inl l ↦ omega (arith, l, there)
       | inr l ↦ omega (arith, l)

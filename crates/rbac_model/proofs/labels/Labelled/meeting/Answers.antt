@@ -1,6 +1,6 @@
 use Rattle.std.proofs.Common.{ℕ, List, ◌<◌, ◌↔◌, length, sym, subst}
 use Rattle.std.proofs.lemmas.Result.{IfOk-weaker}
-use Rattle.rbac_terms.specs.Selecting.{MeetsOp, Meets, HasOneOf, HasKey}
+use Rattle.rbac_terms.specs.Selecting.{MeetsOp, Meets, HasOneOf, HasLabelKey}
 use Rattle.rbac_terms.specs.declared.selecting.SelectOp.{SelectOp}
 use Rattle.rbac_model.specs.Graphs.{HasPlace}
 use Rattle.rbac_model.specs.Labelled.{AreWith}
@@ -24,7 +24,7 @@ returns-in_ok-having-in-Absent c =
     let roles = c.args.self.now in
     let found : List ℕ = c.in_ok-having-in-Absent.field-0 in
     IfOk-weaker c.others-in-Absent-2.result (λ m. (k : ℕ) → HasPlace m k ↔ ((k < length roles) × (HasPlace found k → ⊥))) (AreWith (Meets r) roles)
-    (λ m others. with_same roles (λ ls. HasKey ls r.key → ⊥) (Meets r) m
-    (λ ls. subst (λ (op : SelectOp). (HasKey ls r.key → ⊥) ↔ MeetsOp op r.key r.values ls) (sym c.in-Absent.is) (λ h. h, λ h. h))
-    (with_others roles (λ ls. HasKey ls r.key) found m others c.in_ok-having-in-Absent.ensures))
+    (λ m others. with_same roles (λ ls. HasLabelKey ls r.key → ⊥) (Meets r) m
+    (λ ls. subst (λ (op : SelectOp). (HasLabelKey ls r.key → ⊥) ↔ MeetsOp op r.key r.values ls) (sym c.in-Absent.is) (λ h. h, λ h. h))
+    (with_others roles (λ ls. HasLabelKey ls r.key) found m others c.in_ok-having-in-Absent.ensures))
     c.others-in-Absent-2.ensures

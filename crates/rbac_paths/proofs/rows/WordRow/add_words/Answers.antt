@@ -3,7 +3,7 @@ use Rattle.std.specs.Option.{option_copied}
 use Rattle.rbac_terms.proofs.Cases.{on_ok}
 use Rattle.rbac_terms.specs.Text.{Text}
 use Rattle.rbac_paths.specs.SharedWords.{IsWordFor, LetsName, TakesWord}
-use Rattle.rbac_paths.specs.Steps.{RowView}
+use Rattle.rbac_paths.specs.Steps.{StepRowView}
 use Rattle.rbac_paths.specs.declared.table.Names.TheVariants as names
 use Rattle.rbac_paths.proofs.RuleWords.{any_name, own_names}
 use Rattle.rbac_paths.proofs.WordsAdded.{adds_same}
@@ -25,7 +25,7 @@ returns-in-Own c =
     let rule = c.args.rule.now in
     let matches = c.matches.ensures.0 c.if-not-matches.false in
     let none : LetsName row.names rule None → ⊥ = λ l. (let bad : false ≡ true = c.if-lets_any.ensures.1 l in cc) in
-    let own = subst (λ (r : RowView). r.names ≡ names.Own) c.self.view_is c.in-Own.is in
+    let own = subst (λ (r : StepRowView). r.names ≡ names.Own) c.self.view_is c.in-Own.is in
     let By : List Text → Text → Type 0 = λ ns w. Any (λ name. IsWordFor row.over row.counts home (Some name) w) ns in
     let same = subst (λ (ns : List Text). (w : Text) → By ns w ↔ TakesWord row home rule w) (sym c.as_slice.ensures) (own_names row home rule matches own none) in
     on_ok c.add_named.result (adds_same (By c.as_slice.result.now) (TakesWord row home rule) same c.args.words.now c.add_named.new.words) c.add_named.ensures
