@@ -1,31 +1,16 @@
 -- A verdict has one reason: the first grant that allows, and its first subject that names who asks.
-use Rattle.std.proofs.Common.{◌≡◌, ◌∙◌, ℕ, Bool, true, false, List, inl, inr, ap, sym, subst}
-use Rattle.std.specs.Prelude.{slice_get}
-use Rattle.std.proofs.lemmas.Bool.{cases_order}
-use Rattle.std.proofs.lemmas.Option.{same_Some}
+use Rattle.std.proofs.Common.{◌≡◌, ◌∙◌, ℕ, Bool, true, false, List, ap, sym, subst}
 use Rattle.rbac_terms.specs.Text.{Text}
 use Rattle.rbac_terms.specs.Targets.{What}
 use Rattle.rbac_terms.specs.Principals.{Who}
 use Rattle.rbac_terms.specs.Granting.{Names}
-use Rattle.rbac_model.specs.Lists.{IsFirstAt}
+use Rattle.rbac_model.proofs.Firsts.{one_place, one_first}
 use Rattle.rbac_model.specs.Policies.{PolicyView, GrantView, GrantAllows, IsWhy}
 use Rattle.rbac_catalogue.specs.declared.entry.Entry.{Entry}
 use Rattle.rbac_question.specs.declared.command.Question.{Question}
 use Rattle.rbac_text.specs.Why.{why_text}
 use Rattle.rbac_cli.specs.Out.{IsWhyText, ComesAfterYes}
 use Rattle.rbac_cli.proofs.OneMeant.{one_meant}
-
-pub one_place : {X : Type 0} (P : X → Type 0) (xs : List X) (i j : ℕ) (x y : X) → IsFirstAt P xs i x → IsFirstAt P xs j y → i ≡ j
-one_place P xs i j x y a b = elim (cases_order i j) [
-  | inl e ↦ e
-  | inr d ↦ elim d [
-    | inl m ↦ absurd (b.none_before i x m a.here a.holds)
-    | inr m ↦ absurd (a.none_before j y m b.here b.holds)
-  ]
-]
-
-pub one_first : {X : Type 0} (P : X → Type 0) (xs : List X) (i j : ℕ) (x y : X) → IsFirstAt P xs i x → IsFirstAt P xs j y → x ≡ y
-one_first P xs i j x y a b = same_Some x y (sym a.here ∙ ap (slice_get xs) (one_place P xs i j x y a b) ∙ b.here)
 
 module _ (p : PolicyView) (who : Who) (namespace verb : Text) (t : What) (g k : GrantView) (i j : ℕ) (a : IsWhy p who namespace verb t g i) (b : IsWhy p who namespace verb t k j) where
   one_grant : g ≡ k

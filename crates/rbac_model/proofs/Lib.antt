@@ -3,6 +3,7 @@ pub mod BindingPlaces
 pub mod Brought
 pub mod Closing
 pub mod Decided
+pub mod Firsts
 pub mod Gathered
 pub mod GrantNumbers
 pub mod Granted

@@ -2,7 +2,6 @@
 use Rattle.std.proofs.Common.{◌≡◌, ◌<◌, ℕ, List, [], inl, inr, refl, sym, ◌∙◌, ap, ap₂, subst, arith, Some, None, Option, AllPairs, Contains, map, length, option_map, get_or, slice_get}
 use Rattle.std.specs.BTreeMap.{get, IsOrdered}
 use Rattle.std.specs.declared.cmp.Ordering.TheVariants.{Less}
-use Rattle.std.proofs.lemmas.Bool.{cases_order}
 use Rattle.std.proofs.lemmas.Cmp.{nat_list_cmp_total}
 use Rattle.std.proofs.lemmas.List.{length-map, same_from_push}
 use Rattle.std.proofs.Math.ListN.{get_or-map}
@@ -14,6 +13,7 @@ use Rattle.rbac_terms.specs.Granting.{IsSubjectKey}
 use Rattle.rbac_model.specs.Lists.{IsFirstAt}
 use Rattle.rbac_model.specs.Policies.{GrantView, IsPolicy, PolicyView}
 use Rattle.rbac_model.proofs.BindingPlaces.{of_some_binding}
+use Rattle.rbac_model.proofs.Firsts.{one_place, one_first}
 use Rattle.rbac_model.proofs.OwnWords.{any_from}
 use Rattle.rbac_text.specs.Choice.{choice_text, choice_and_tab}
 use Rattle.rbac_text.specs.Row.{tab}
@@ -25,18 +25,6 @@ use Rattle.rbac_paths.proofs.Entries.{strict}
 use Rattle.rbac_paths.proofs.Mapped.{some_is}
 
 -- ---- a power is told by its step, who and where
-
-pub one_first : {X : Type 0} (P : X → Type 0) (xs : List X) (i j : ℕ) (x y : X) → IsFirstAt P xs i x → IsFirstAt P xs j y → i ≡ j
-one_first P xs i j x y a b = elim (cases_order i j) [
-  | inl same ↦ same
-  | inr less ↦ elim less [
-    | inl low ↦ absurd (b.none_before i x low a.here a.holds)
-    | inr low ↦ absurd (a.none_before j y low b.here b.holds)
-  ]
-]
-
-pub same_first : {X : Type 0} (P : X → Type 0) (xs : List X) (i j : ℕ) (x y : X) → IsFirstAt P xs i x → IsFirstAt P xs j y → x ≡ y
-same_first P xs i j x y a b = same_Some x y (sym a.here ∙ ap (λ (k : ℕ). slice_get xs k) (one_first P xs i j x y a b) ∙ b.here)
 
 place_tells : (who other : Text) (a b : Option Text) → who_and_where who a ≡ who_and_where other b → (who ≡ other) × (a ≡ b)
 place_tells who other a b e =
@@ -51,11 +39,11 @@ module _ (p : PolicyView) (step : Step) where
       subst (λ (o : Option Text). IsFirstAt (GivesThere y.step y.who o) p.grants a.grant.0 x.grant) told.1
       (subst (λ (w : Text). IsFirstAt (GivesThere y.step w x.grant.binding.namespace) p.grants a.grant.0 x.grant) told.0
       (subst (λ (s : Step). IsFirstAt (GivesThere s x.who x.grant.binding.namespace) p.grants a.grant.0 x.grant) (xs ∙ sym ys) a.grant.1)) in
-      let grants : x.grant ≡ y.grant = same_first (GivesThere y.step y.who y.grant.binding.namespace) p.grants a.grant.0 b.grant.0 x.grant y.grant there b.grant.1 in
+      let grants : x.grant ≡ y.grant = one_first (GivesThere y.step y.who y.grant.binding.namespace) p.grants a.grant.0 b.grant.0 x.grant y.grant there b.grant.1 in
       let subject : IsFirstAt (λ s. IsSubjectKey s y.grant.binding.namespace y.who) y.grant.binding.subjects x.subject_place a.subject.0 =
       subst (λ (g : GrantView). IsFirstAt (λ s. IsSubjectKey s g.binding.namespace y.who) g.binding.subjects x.subject_place a.subject.0) grants
       (subst (λ (w : Text). IsFirstAt (λ s. IsSubjectKey s x.grant.binding.namespace w) x.grant.binding.subjects x.subject_place a.subject.0) told.0 a.subject.1) in
-      let places : x.subject_place ≡ y.subject_place = one_first (λ s. IsSubjectKey s y.grant.binding.namespace y.who) y.grant.binding.subjects x.subject_place y.subject_place a.subject.0 b.subject.0 subject b.subject.1 in
+      let places : x.subject_place ≡ y.subject_place = one_place (λ s. IsSubjectKey s y.grant.binding.namespace y.who) y.grant.binding.subjects x.subject_place y.subject_place a.subject.0 b.subject.0 subject b.subject.1 in
       let of : Step → Text → GrantView → ℕ → PowerView = λ s w g i. record { step = s; who = w; grant = g; subject_place = i } in
       ap₂ (λ (s : Step) (w : Text). of s w x.grant x.subject_place) (xs ∙ sym ys) told.0 ∙ ap₂ (λ (g : GrantView) (i : ℕ). of y.step y.who g i) grants places
 

@@ -19,7 +19,7 @@ use Rattle.rbac_paths.specs.Aims.{ToTakeOver}
 use Rattle.rbac_paths.specs.Reasons.{IsReason}
 use Rattle.rbac_paths.specs.Told.{IsFirstTold}
 use Rattle.rbac_paths.specs.declared.steps.Step.{Step}
-use Rattle.rbac_paths.proofs.AllPowers.{same_first}
+use Rattle.rbac_model.proofs.Firsts.{one_first}
 use Rattle.rbac_paths.proofs.OneReason.{one_reason}
 
 -- ---- lists of users and groups with the same elements give the same paths
@@ -144,7 +144,7 @@ module _ (p : PolicyView) (all : List Who) (steps : List Step) (start : NodeView
       let there : IsBeforeOn R S a.others x.node z.before = subst (λ n. IsBeforeOn R S n x.node z.before) others (subst (λ y. IsBeforeOn R S b.others y z.before) (sym e) b.before) in
       let befores : x.before ≡ z.before = one_before xs are a.others x.node x.before z.before a.before there (text_cmp (node_text x.before) (node_text z.before)) refl in
       let told : IsFirstTold p steps x.before x.node z.step = subst (λ y. IsFirstTold p steps y x.node z.step) (sym befores) (subst (λ y. IsFirstTold p steps z.before y z.step) (sym e) b.step) in
-      let step : x.step ≡ z.step = same_first _ steps a.step.0 told.0 x.step z.step a.step.1 told.1 in
+      let step : x.step ≡ z.step = one_first _ steps a.step.0 told.0 x.step z.step a.step.1 told.1 in
       let why : IsReason p x.before (ToTakeOver x.step x.node) z.reason = subst (λ s. IsReason p x.before (ToTakeOver s x.node) z.reason) (sym step)
       (subst (λ y. IsReason p y (ToTakeOver z.step x.node) z.reason) (sym befores) (subst (λ y. IsReason p z.before (ToTakeOver z.step y) z.reason) (sym e) b.reason)) in
       let reason : x.reason ≡ z.reason = one_reason p x.before (ToTakeOver x.step x.node) x.reason z.reason a.reason why in

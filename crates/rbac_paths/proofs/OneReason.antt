@@ -9,16 +9,16 @@ use Rattle.rbac_model.proofs.OneList.{one_rules}
 use Rattle.rbac_paths.specs.Aims.{AimView, GrantServes, Serves}
 use Rattle.rbac_paths.specs.Nodes.{NodeView, Somebody, ClusterRoleIn, OwnRole, EverythingIn}
 use Rattle.rbac_paths.specs.Reasons.{ByAll, ByGrant, ByRule, IsFirstRule, IsNamedAt, IsReason, ReasonView}
-use Rattle.rbac_paths.proofs.AllPowers.{one_first, same_first}
+use Rattle.rbac_model.proofs.Firsts.{one_place, one_first}
 
 one_grant : (p : PolicyView) (who : Who) (aim : AimView) (g k : GrantView) (i j : ℕ)
     → IsReason p (Somebody who) aim (ByGrant g i)
     → IsReason p (Somebody who) aim (ByGrant k j)
     → ByGrant g i ≡ ByGrant k j
 one_grant p who aim g k i j (named, (n, a)) (names, (m, b)) =
-    let grants : g ≡ k = same_first (GrantServes aim who) p.grants n m g k a b in
+    let grants : g ≡ k = one_first (GrantServes aim who) p.grants n m g k a b in
     let there : IsNamedAt g who j = subst (λ (x : GrantView). IsNamedAt x who j) (sym grants) names in
-    let places : i ≡ j = one_first (λ s. Names s g.binding.namespace who) g.binding.subjects i j named.0 there.0 named.1 there.1 in
+    let places : i ≡ j = one_place (λ s. Names s g.binding.namespace who) g.binding.subjects i j named.0 there.0 named.1 there.1 in
     ap₂ ByGrant grants places
 
 one_rule : (h : Held) (role : Source) (home : Option Text) (aim : AimView) (source other : Source) (place spot : ℕ)
@@ -29,7 +29,7 @@ one_rule h role home aim source other place spot (rules, are, (n, r, a, rs, rp))
     let lists : same ≡ rules = one_rules h role same rules those are in
     let P : SourcedRule → Type 0 = λ r. Serves aim home r.rule in
     let there : IsFirstAt P rules m q = subst (λ (xs : List SourcedRule). IsFirstAt P xs m q) lists b in
-    let first : r ≡ q = same_first P rules n m r q a there in
+    let first : r ≡ q = one_first P rules n m r q a there in
     ap₂ ByRule (sym rs ∙ ap (λ (x : SourcedRule). x.source) first ∙ qs) (sym rp ∙ ap (λ (x : SourcedRule). x.place) first ∙ qp)
 
 pub one_reason : (p : PolicyView) (x : NodeView) (aim : AimView) (reason other : ReasonView) → IsReason p x aim reason → IsReason p x aim other

@@ -19,7 +19,7 @@ use Rattle.rbac_paths.specs.Reasons.{IsReason, ReasonView}
 use Rattle.rbac_paths.specs.Told.{IsFirstTold}
 use Rattle.rbac_paths.specs.WaysTo.{AreWays, AreWaysTo, GoesBack, IsComeTo, IsOnward, IsPrincipal, IsWayOn, NextView, WayView}
 use Rattle.rbac_paths.specs.declared.steps.Step.{Step}
-use Rattle.rbac_paths.proofs.AllPowers.{same_first}
+use Rattle.rbac_model.proofs.Firsts.{one_first}
 use Rattle.rbac_paths.proofs.OnePaths.{before_to, fewest_to, goes_back, goes_to, leads_back, one_count, told_less, told_name}
 use Rattle.rbac_paths.proofs.OneReason.{one_reason}
 
@@ -127,7 +127,7 @@ module _ (p : PolicyView) (all : List Who) (steps : List Step) (asked : AccessVi
           let there : IsBeforeOn R S a.others y other.node = subst (λ m. IsBeforeOn R S m y other.node) others b.to in
           let nodes : next.node ≡ other.node = one_next a.others y next.node other.node come a.to there (text_cmp (node_text next.node) (node_text other.node)) refl in
           let told : IsFirstTold p steps y next.node other.step = subst (λ z. IsFirstTold p steps y z other.step) (sym nodes) b.step in
-          let step : next.step ≡ other.step = same_first _ steps a.step.0 told.0 next.step other.step a.step.1 told.1 in
+          let step : next.step ≡ other.step = one_first _ steps a.step.0 told.0 next.step other.step a.step.1 told.1 in
           let too : IsReason p y (ToTakeOver next.step next.node) why = subst (λ s. IsReason p y (ToTakeOver s next.node) why) (sym step)
           (subst (λ z. IsReason p y (ToTakeOver other.step z) why) (sym nodes) b.reason) in
           let reasons : reason ≡ why = one_reason p y (ToTakeOver next.step next.node) reason why a.reason too in
