@@ -189,8 +189,7 @@ fn next_run(index: &Index<'_>, line: Line<'_>, runs: &Runs, walk: &mut Walk) -> 
     if runs.are_all() {
         return None;
     }
-    let run = looked_up_run(index, line, walk)?;
-    Some(run)
+    looked_up_run(index, line, walk)
 }
 
 // The run after the one that the walk is in, looked up. Few lines look one up, and all walk, so this
