@@ -13,7 +13,7 @@ use Rattle.rbac_terms.specs.declared.granting.Subject.TheVariants.{User, Group, 
 use Rattle.rbac_terms.proofs.Groups.{apart}
 use Rattle.rbac_model.specs.Lists.{by_name, IsAscendingBy}
 use Rattle.rbac_model.specs.Policies.{Held, Grants, Allows, IsFirst, PolicyView, binding_name}
-use Rattle.rbac_model.specs.Unions.{AreUnited, who_name}
+use Rattle.rbac_model.specs.Unions.{AreUnited, who_texts}
 use Rattle.rbac_model.specs.Universes.{UniverseView, RowView, Cell, IsRow, IsMatrix, cell_key}
 use Rattle.rbac_index.specs.WhoCan.{AreListedHolders}
 use Rattle.rbac_model.proofs.OneList.{one_list, one_of_name}
@@ -117,7 +117,7 @@ module _ (listed ps qs : List Who) (m : AreUnited listed ps) (n : AreUnited list
   given_there : (p q : Who) → Contains ps p → Contains qs q → who_key p ≡ who_key q → (g : Text) → Contains (given_of p) g → Contains (given_of q) g
   given_there p q inp inq e g w =
       let (k, other, lt, at, has) = (n.given (who_key p) g).1 ((m.given (who_key p) g).0 (as_any (λ x. (who_key x ≡ who_key p) × Contains (given_of x) g) ps p inp (refl, w))) in
-      let same : other ≡ q = one_of_name who_name qs other q n.ordered (k, lt, at) inq (ap (λ (x : Text). x ∷ []) (has.0 ∙ e)) in
+      let same : other ≡ q = one_of_name who_texts qs other q n.ordered (k, lt, at) inq (ap (λ (x : Text). x ∷ []) (has.0 ∙ e)) in
       subst (λ x. Contains (given_of x) g) same has.1
 
   there : (p : Who) → Contains ps p → (q : Who) × Contains qs q × (who_key q ≡ who_key p)

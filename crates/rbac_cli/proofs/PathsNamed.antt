@@ -7,7 +7,7 @@ use Rattle.rbac_terms.specs.Text.{Text, text_cmp}
 use Rattle.rbac_terms.specs.Principals.{Who, given_of, who_key}
 use Rattle.rbac_model.specs.Lists.{by_name, IsAscendingBy, IsOnceEach}
 use Rattle.rbac_model.specs.Policies.{PolicyView}
-use Rattle.rbac_model.specs.Unions.{who_name}
+use Rattle.rbac_model.specs.Unions.{who_texts}
 use Rattle.rbac_document.specs.Names.{principal_name}
 use Rattle.rbac_paths.specs.Access.{AccessView}
 use Rattle.rbac_paths.specs.Paths.{ArePathsOf, PathView}
@@ -16,13 +16,13 @@ use Rattle.rbac_paths.specs.WaysTo.{AreWaysTo, WayView}
 use Rattle.rbac_paths.specs.declared.steps.Step.{Step}
 
 -- who is given no groups is named by its key alone
-key_alone : (who : Who) → given_of who ≡ [] → principal_name who ≡ who_name who
+key_alone : (who : Who) → given_of who ≡ [] → principal_name who ≡ who_texts who
 key_alone who none = ap (λ (gs : List Text). who_key who ∷ gs) none
 
 -- in order of their names those that are given no groups are in order of their keys
-pub by_keys : (named each : List Who) → All (λ who. given_of who ≡ []) named → IsOnceEach (by_name principal_name) named each → IsAscendingBy who_name each
+pub by_keys : (named each : List Who) → All (λ who. given_of who ≡ []) named → IsOnceEach (by_name principal_name) named each → IsAscendingBy who_texts each
 by_keys named each none once i j d lt l =
-    let alone : (k : ℕ) → k < length each → principal_name (get_or each k d) ≡ who_name (get_or each k d) = λ k low.
+    let alone : (k : ℕ) → k < length each → principal_name (get_or each k d) ≡ who_texts (get_or each k d) = λ k low.
     (let w = (once.same (get_or each k d)).0 (k, low, get_or_default each k (get_or each k d) d low) in
     key_alone (get_or each k d) (subst (λ (who : Who). given_of who ≡ []) w.2 (none w.0 (get_or each k d) w.1))) in
     let less = Less-from_sorted (by_name principal_name) each i j d once.ascending lt l in

@@ -4,7 +4,7 @@ ghost use Rattle.std.specs.Prelude.{◌≡◌, ◌↔◌, Contains, IfOk, Vec, f
 ghost use Rattle.std.specs.Global.{Global};
 ghost use Rattle.rbac_terms.specs.Principals.{Who};
 ghost use Rattle.rbac_model.specs.Lists.{IsAscendingBy};
-ghost use Rattle.rbac_model.specs.Unions.{who_name};
+ghost use Rattle.rbac_model.specs.Unions.{who_texts};
 ghost use Rattle.rbac_paths.specs.declared.steps.Step.{Step as PathStep};
 ghost use Rattle.rbac_question.specs.declared.command.Action.TheVariants.{Paths as ListsPaths};
 ghost use Rattle.rbac_cli.specs.Printing.{EndsPrinting};
@@ -52,7 +52,7 @@ pub(crate) fn print_paths<W: Write + Drop>(
 
 /// The users and groups that bindings and ServiceAccount objects name, each once, in order of keys.
 pub(crate) fn principals_of(alloc: Global, export: &Export) -> Result<Principals, AllocError>
-    ensures ordered { IfOk result (IsAscendingBy who_name) }
+    ensures ordered { IfOk result (IsAscendingBy who_texts) }
     ensures exact { IfOk result
         (λ each. (who : Who) → Contains each who ↔ Contains export.now.principals who) }
 {

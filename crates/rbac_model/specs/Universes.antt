@@ -9,7 +9,7 @@ use Rattle.rbac_terms.specs.Principals.{Who}
 use Rattle.rbac_terms.specs.Keys.{KeyTexts, key_of, key_cmp}
 use Rattle.rbac_terms.specs.Matching.{VerbOk, TargetOk, RuleAllows}
 use Rattle.rbac_model.specs.Policies.{Held, PolicyView, GrantView, BindingNames, IsFirst}
-use Rattle.rbac_model.specs.Unions.{who_name}
+use Rattle.rbac_model.specs.Unions.{who_texts}
 use Rattle.rbac_terms.specs.declared.matching.Rule.{Rule}
 use Rattle.rbac_terms.specs.declared.granting.Binding.{Binding}
 
@@ -38,7 +38,7 @@ target_texts t = group_of t.0 ∷ text_of t.0 ∷ name_of t.0 ∷ []
 
 -- the lists are in order, and no URL is namespaced (own)
 pub record IsUniverse (u : UniverseView) : Type 0 where
-  pub principals : IsAscendingBy who_name u.principals
+  pub principals : IsAscendingBy who_texts u.principals
   pub namespaces : IsAscendingBy (λ n. n ∷ []) u.namespaces
   pub verbs : IsAscendingBy (λ v. v ∷ []) u.verbs
   pub targets : IsAscendingBy target_texts u.targets

@@ -8,24 +8,24 @@ use Rattle.rbac_terms.specs.Principals.{Who, who_key}
 use Rattle.rbac_model.proofs.NamePlaces.{equal_from_name}
 use Rattle.rbac_model.proofs.Stairs.{take_read}
 use Rattle.rbac_model.specs.Lists.{IsAscendingBy, by_name}
-use Rattle.rbac_model.specs.Unions.{who_name}
+use Rattle.rbac_model.specs.Unions.{who_texts}
 use Rattle.rbac_paths.specs.Principals.{IsOneWith}
 use Rattle.rbac_paths.proofs.Mapped.{is_element, map_contains, one_element}
 
 -- one that comes before another in order of keys has another key
-earlier_differs : (ps : List Who) (i : ℕ) (who other : Who) → IsAscendingBy who_name ps → i < length ps → other ≡ get_or ps i other → Contains (take i ps) who → who_key who ≢ who_key other
+earlier_differs : (ps : List Who) (i : ℕ) (who other : Who) → IsAscendingBy who_texts ps → i < length ps → other ≡ get_or ps i other → Contains (take i ps) who → who_key who ≢ who_key other
 earlier_differs ps i who other up within there before e =
     let low : before.0 < i = omega (arith, before.1, length-take i ps) in
     let first : get_or ps before.0 other ≡ who = get_or_default ps before.0 other who (omega (arith, low, within)) ∙ sym (get_or-take i ps before.0 who low) ∙ before.2 in
-    let less : by_name who_name who other ≡ Less = ap₂ (λ (x : Who) (y : Who). by_name who_name x y) (sym first) there ∙ up before.0 i other low within in
-    let tied : by_name who_name who other ≡ Equal = equal_from_name who_name who other (ap (λ (t : Text). t ∷ []) e) in
+    let less : by_name who_texts who other ≡ Less = ap₂ (λ (x : Who) (y : Who). by_name who_texts x y) (sym first) there ∙ up before.0 i other low within in
+    let tied : by_name who_texts who other ≡ Equal = equal_from_name who_texts who other (ap (λ (t : Text). t ∷ []) e) in
     let both : Less ≡ Equal = sym less ∙ tied in cc
 
 module _ {R : Type 0} (f : R → Who) (asked : Who) (ps : List Who) where
   -- those that were passed, with the one asked about
   pub record IsWith (passed : List Who) (xs : List R) : Type 0 where
     pub exact : (who : Who) → Contains (map f xs) who ↔ IsOneWith passed asked who
-    pub apart : IsAscendingBy who_name ps → AllPairs (λ a b. who_key (f a) ≢ who_key (f b)) xs
+    pub apart : IsAscendingBy who_texts ps → AllPairs (λ a b. who_key (f a) ≢ who_key (f b)) xs
 
   pub with_none : (x : R) (xs : List R) → f x ≡ asked → xs ≡ x ∷ [] → IsWith [] xs
   with_none x xs is made = subst (λ (ys : List R). IsWith [] ys) (sym made) (record {
@@ -59,7 +59,7 @@ module _ {R : Type 0} (f : R → Who) (asked : Who) (ps : List Who) where
       apart = are.apart;
     })
 
-    differs : IsAscendingBy who_name ps → who_key who ≢ who_key asked → (x : Who) → IsOneWith (take i ps) asked x → who_key x ≢ who_key who
+    differs : IsAscendingBy who_texts ps → who_key who ≢ who_key asked → (x : Who) → IsOneWith (take i ps) asked x → who_key x ≢ who_key who
     differs up other x (inl is) e = other (sym e ∙ ap who_key is)
     differs up other x (inr before) e = earlier_differs ps i x who up within there before.0 e
 

@@ -6,7 +6,7 @@ ghost use Rattle.std.specs.declared.cmp.Ordering.TheVariants.{Less};
 ghost use Rattle.rbac_terms.specs.Text.{text_cmp};
 ghost use Rattle.rbac_model.specs.Lists.{IsAscendingBy};
 ghost use Rattle.rbac_model.specs.Policies.{IsPolicy};
-ghost use Rattle.rbac_model.specs.Unions.{who_name};
+ghost use Rattle.rbac_model.specs.Unions.{who_texts};
 ghost use Rattle.rbac_ways.specs.Ways.{AreInOrder};
 ghost use Rattle.rbac_paths.specs.Aims.{ToTakeOver};
 ghost use Rattle.rbac_paths.specs.Deciding.{AreNumbers, AreNumbersOf};
@@ -84,7 +84,7 @@ pub fn paths<'p>(
     steps: &[Step],
 ) -> Result<Vec<Path<'p>>, AllocError>
     requires index { index.now ≡ policy.now }
-    requires ordered { IsAscendingBy who_name principals.now }
+    requires ordered { IsAscendingBy who_texts principals.now }
     ensures { IfOk result (λ found.
         ArePathsOf policy.now principals.now steps.now who.now found.items) }
 {

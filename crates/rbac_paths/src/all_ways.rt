@@ -7,7 +7,7 @@ ghost use Rattle.rbac_terms.specs.Principals.{who_key};
 ghost use Rattle.rbac_terms.specs.Text.{text_cmp};
 ghost use Rattle.rbac_model.specs.Lists.{IsAscendingBy};
 ghost use Rattle.rbac_model.specs.Policies.{IsPolicy};
-ghost use Rattle.rbac_model.specs.Unions.{who_name};
+ghost use Rattle.rbac_model.specs.Unions.{who_texts};
 ghost use Rattle.rbac_ways.specs.Ways.{AreInOrder};
 ghost use Rattle.rbac_paths.specs.Access.{AllowsAccess, access_of};
 ghost use Rattle.rbac_paths.specs.Deciding.{AreNumbers};
@@ -94,7 +94,7 @@ pub fn ways_to<'p>(
     access: Access<'_>,
 ) -> Result<Vec<Way<'p>>, AllocError>
     requires index { index.now ≡ policy.now }
-    requires ordered { IsAscendingBy who_name principals.now }
+    requires ordered { IsAscendingBy who_texts principals.now }
     ensures { IfOk result (λ found.
         AreWaysTo policy.now principals.now steps.now (access_of access.entry) found.items) }
 {
@@ -121,7 +121,7 @@ pub fn ways_to<'p>(
 // These users and groups, each by reference.
 fn each_of<'p>(alloc: Global, principals: &'p [Principal]) -> Result<Vec<&'p Principal>, AllocError>
     ensures same { IfOk result (λ all. map (λ each. each.now) all.items ≡ principals.now) }
-    ensures apart { IsAscendingBy who_name principals.now
+    ensures apart { IsAscendingBy who_texts principals.now
         → IfOk result (λ all. AllPairs (λ a b. who_key a.now ≢ who_key b.now) all.items) }
 {
     let mut all = Vec::with_capacity(alloc, principals.len())?;

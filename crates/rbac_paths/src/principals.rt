@@ -3,7 +3,7 @@
 ghost use Rattle.std.specs.Prelude.{◌≢◌, ◌↔◌, AllPairs, Contains, IfOk, map};
 ghost use Rattle.rbac_terms.specs.Principals.{Who, who_key};
 ghost use Rattle.rbac_model.specs.Lists.{IsAscendingBy};
-ghost use Rattle.rbac_model.specs.Unions.{who_name};
+ghost use Rattle.rbac_model.specs.Unions.{who_texts};
 ghost use Rattle.rbac_paths.specs.Principals.{IsOneWith};
 
 use rbac_terms::Principal;
@@ -19,7 +19,7 @@ pub(crate) fn principals_with<'p>(
     ensures exact { IfOk result (λ all. (who : Who)
         → Contains (map (λ each. each.now) all.items) who
         ↔ IsOneWith principals.now asked.now who) }
-    ensures apart { IsAscendingBy who_name principals.now
+    ensures apart { IsAscendingBy who_texts principals.now
         → IfOk result (λ all. AllPairs (λ a b. who_key a.now ≢ who_key b.now) all.items) }
 {
     let mut all = vec![in alloc; asked]?;

@@ -7,7 +7,7 @@ use Rattle.std.proofs.lemmas.Map.Keys.{Less-from_sorted}
 use Rattle.rbac_terms.specs.Text.{Text, text_cmp}
 use Rattle.rbac_terms.specs.Targets.{What, Url}
 use Rattle.rbac_terms.specs.Principals.{Who, who_key, given_of}
-use Rattle.rbac_model.specs.Unions.{AreUnited, who_name}
+use Rattle.rbac_model.specs.Unions.{AreUnited, who_texts}
 use Rattle.rbac_model.specs.Lists.{IsAscendingBy, IsOnceEach}
 use Rattle.rbac_model.specs.Universes.{UniverseView, IsUniverse, Listed}
 use Rattle.rbac_universe.specs.declared.lists.UniverseLists.{UniverseLists}
@@ -21,10 +21,10 @@ any_as : {X : Type 0} {P Q : X → Type 0} (xs : List X) → ((x : X) → P x �
 any_as xs f w = (w.0, w.1, w.2, w.3, f w.1 w.4)
 
 -- principals are determined by their keys
-pub principals_united : (listed ps : List Who) → AreUnitedBy who_name (λ who g. Contains (given_of who) g) listed ps → AreUnited listed ps
+pub principals_united : (listed ps : List Who) → AreUnitedBy who_texts (λ who g. Contains (given_of who) g) listed ps → AreUnited listed ps
 principals_united listed ps are =
-    let into = λ (key : Text) (p : Who) (e : who_key p ≡ key). let n : who_name p ≡ key ∷ [] = ap (λ (k : Text). k ∷ []) e in n in
-    let out = λ (key : Text) (p : Who) (e : who_name p ≡ key ∷ []). let n : who_key p ≡ key = cc in n in
+    let into = λ (key : Text) (p : Who) (e : who_key p ≡ key). let n : who_texts p ≡ key ∷ [] = ap (λ (k : Text). k ∷ []) e in n in
+    let out = λ (key : Text) (p : Who) (e : who_texts p ≡ key ∷ []). let n : who_key p ≡ key = cc in n in
     record {
       ordered = are.ordered;
       keys = λ key. (

@@ -8,9 +8,9 @@ use std::cmp::Ordering;
 impl Unites for Principal {
     ghost use Rattle.std.specs.Prelude.{Contains};
     ghost use Rattle.rbac_terms.specs.Principals.{given_of};
-    ghost use Rattle.rbac_model.specs.Unions.{who_name};
+    ghost use Rattle.rbac_model.specs.Unions.{who_texts};
 
-    ghost name = { who_name };
+    ghost name = { who_texts };
 
     ghost has = { λ who group. Contains (given_of who) group };
 
