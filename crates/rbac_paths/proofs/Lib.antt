@@ -19,6 +19,7 @@ pub mod GivenGrants
 pub mod Giving
 pub mod GraphOf
 pub mod GraphWays
+pub mod GrantWords
 pub mod Grants
 pub mod InScopes
 pub mod KeysApart

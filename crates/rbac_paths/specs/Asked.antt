@@ -1,12 +1,18 @@
 -- What the requests that take over a node ask.
-use Rattle.std.specs.Prelude.{◌≡◌, ◌↔◌, Contains, Option, MatchOption}
+use Rattle.std.specs.Prelude.{◌≡◌, ◌↔◌, Any, Contains, List, Option, MatchOption}
 use Rattle.rbac_terms.specs.Text.{Text}
 use Rattle.rbac_terms.specs.Principals.{Who, AsUser, AsMember}
 use Rattle.rbac_terms.specs.Targets.{Resource}
 use Rattle.rbac_terms.specs.Matching.{NameMatches, RuleAllows}
 use Rattle.rbac_terms.specs.declared.matching.Rule.{Rule}
-use Rattle.rbac_paths.specs.Steps.{IsNameAsked, StepRowView}
+use Rattle.rbac_model.specs.Policies.{Live}
+use Rattle.rbac_paths.specs.Having.{HoldingView}
+use Rattle.rbac_paths.specs.Nodes.{NodeView}
+use Rattle.rbac_paths.specs.Steps.{IsNameAsked, StepRowView, asked_in}
+use Rattle.rbac_paths.specs.Taking.{RowTakes}
+use Rattle.rbac_paths.specs.Told.{HoldingTakes}
 use Rattle.rbac_paths.specs.declared.table.Names.{Names}
+use Rattle.rbac_paths.specs.declared.steps.Step.{Step}
 use Rattle.rbac_paths.specs.declared.taking.Asked.{Asked}
 
 -- the answer is the one namespace and the one name that are so, or nothing if none are
@@ -34,3 +40,35 @@ pub record AllowsRowFor (r : StepRowView) (own : Text) (rule : Rule) : Type 0 wh
   pub of_resources : Contains r.resources text
   pub named : IsNameAsked r.names own name
   pub allows : RuleAllows rule verb (Resource r.group text name)
+
+-- the holding counts where the row's requests are asked in that namespace, and allows some for what has
+-- that name
+abbrev pub AllowsAsked : StepRowView → Text → Text → HoldingView → Type 0
+AllowsAsked r namespace own h =
+    ((text name : Text) → Live h.home (asked_in r.counts namespace) (Resource r.group text name))
+    × AllowsRowFor r own h.rule
+
+-- a row, with what its requests that take over a node ask
+pub record AskedRowView : Type 0 where
+  pub row : StepRowView
+  pub namespace : Text
+  pub own : Text
+
+-- the holding allows some of these
+abbrev pub AllowsAskedRow : HoldingView → AskedRowView → Type 0
+AllowsAskedRow h a = AllowsAsked a.row a.namespace a.own h
+
+-- the holdings that allow some of the answer are those that take over y by the row; nothing, if none does
+abbrev pub IsAskedFor : StepRowView → NodeView → Option AskedRowView → Type 0
+IsAskedFor r y answer = MatchOption answer
+    ((h : HoldingView) → ¬ RowTakes r h.home h.rule y)
+    (λ a. (h : HoldingView) → AllowsAskedRow h a ↔ RowTakes r h.home h.rule y)
+
+-- the holdings that allow some of these are those that take over y by some of the rows
+abbrev pub AreAskedFor : List StepRowView → NodeView → List AskedRowView → Type 0
+AreAskedFor rows y asked = (h : HoldingView) → Any (AllowsAskedRow h) asked
+    ↔ Any (λ row. RowTakes row h.home h.rule y) rows
+
+-- the holdings that allow some of these are those that take over y by the step
+abbrev pub AreAskedBy : Step → NodeView → List AskedRowView → Type 0
+AreAskedBy step y asked = (h : HoldingView) → Any (AllowsAskedRow h) asked ↔ HoldingTakes step h y

@@ -19,6 +19,7 @@ pub mod Principals
 pub mod Reasons
 pub mod Rows
 pub mod SharedWords
+pub mod StepMarks
 pub mod Steps
 pub mod Taking
 pub mod TakingOver

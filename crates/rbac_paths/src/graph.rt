@@ -4,7 +4,7 @@ ghost use Rattle.std.specs.Prelude.{◌≡◌, ◌↔◌, ◌⊎◌, ◌∷◌, 
 ghost use Rattle.std.specs.Option.{option_copied};
 ghost use Rattle.rbac_terms.specs.Principals.{Who};
 ghost use Rattle.rbac_model.specs.Policies.{IsPolicy, PolicyView};
-ghost use Rattle.rbac_paths.specs.Deciding.{AreNumbers, IsAnyNode};
+ghost use Rattle.rbac_paths.specs.Deciding.{AreNumbers, AreNumbersOf, IsAnyNode};
 ghost use Rattle.rbac_paths.specs.Joints.{AreHad, AreOtherPlaces, AreOthers, AreOverOthers, AreScoped, CountsAt};
 ghost use Rattle.rbac_paths.specs.Joints.{DecideOn, IsHadBy};
 ghost use Rattle.rbac_paths.specs.Joints.{IsNobody, IsOverNobody, MatchesOverOthers, MayTakeBy};
@@ -12,6 +12,7 @@ ghost use Rattle.rbac_paths.specs.Joints.{SomeMayTake, scope_at};
 ghost use Rattle.rbac_paths.specs.Joints.{TakesByWords};
 ghost use Rattle.rbac_paths.specs.Nodes.{EverythingIn, NodeView, Somebody, node_of};
 ghost use Rattle.rbac_paths.specs.Paths.{IsGraphOf};
+ghost use Rattle.rbac_paths.specs.StepMarks.{MarkEach};
 ghost use Rattle.rbac_paths.specs.TakingOver.{MayGoOn, TakesOver};
 ghost use Rattle.rbac_paths.specs.Told.{HasItsRole};
 ghost use Rattle.rbac_paths.specs.declared.steps.Step.TheVariants.{Bind, Escalate};
@@ -21,10 +22,11 @@ use crate::holding::{Holding, rule_of_all};
 use crate::listed::listed_at;
 use crate::node::Node;
 use crate::rows::WordRow;
+use crate::rule_marks::{RuleMarks, marks_of_steps};
 use crate::steps::Step;
 use crate::table::Over;
 use crate::told::{StepRows, first_told, has_all, rows_of_steps};
-use crate::words::{taken_words, words_of_whom};
+use crate::words::{taken_words, words_of_grants, words_of_whom};
 use rbac_model::Policy;
 use rbac_subjects::SubjectIndex;
 use rbac_terms::{Items, Rule, Word, Words};
@@ -53,13 +55,15 @@ pub(crate) fn graph_of<'p>(
     let writing = rows.as_slice();
     let others = places_of_others(alloc, nodes)?;
     let others = others.as_slice();
+    let marks = marks_of_steps(alloc, policy.objects(), steps)?;
+    let marks = marks.as_slice();
     let mut takes = Vec::with_capacity(alloc, nodes.len())?;
     let mut also = Vec::with_capacity(alloc, nodes.len())?;
     for (place, node) in nodes.iter().enumerate() {
         let own = listed_at(numbers, place);
         let holdings = deciding_holdings(alloc, policy, index, &all, *node, own)?;
         let held = holdings.as_slice();
-        takes.push(words_taken(alloc, steps, held, *node)?)?;
+        takes.push(words_taken(alloc, policy, steps, marks, held, own, *node)?)?;
         also.push(others_taken(alloc, steps, writing, held, *node, nodes, others)?)?;
     }
     let had_by = words_of_nodes(alloc, nodes)?;
@@ -79,8 +83,31 @@ fn places_of_others(alloc: Global, nodes: &[Node<'_>]) -> Result<Vec<usize>, All
     Ok(places)
 }
 
-// The words that a node takes; these holdings decide that.
+// The words that a node takes; these holdings decide that, and for somebody the grants with these
+// numbers.
 fn words_taken(
+    alloc: Global,
+    policy: &Policy,
+    steps: &[StepRows],
+    marks: &[RuleMarks],
+    holdings: &[Holding<'_>],
+    numbers: &[u32],
+    node: Node<'_>,
+) -> Result<Words, AllocError>
+    requires policy { IsPolicy policy.now }
+    requires marks { MarkEach policy.now.held steps.now marks.now }
+    requires numbers { AreNumbersOf policy.now steps.now (node_of node) numbers.now }
+    ensures { DecideOn policy.now steps.now (node_of node.entry) holdings.now IsAnyNode
+        → IfOk result (λ ws. TakesByWords policy.now steps.now (node_of node.entry) ws) }
+{
+    match node {
+        Node::Somebody(_) => words_of_grants(alloc, policy, steps, marks, numbers),
+        _ => words_held(alloc, steps, holdings, node),
+    }
+}
+
+// The words that a node takes; these holdings decide that.
+fn words_held(
     alloc: Global,
     steps: &[StepRows],
     holdings: &[Holding<'_>],

@@ -6,8 +6,9 @@ ghost use Rattle.std.specs.Option.{option_copied};
 ghost use Rattle.rbac_model.specs.Lists.{IsFirstAt};
 ghost use Rattle.rbac_model.specs.Policies.{GrantView, IsPolicy};
 ghost use Rattle.rbac_paths.specs.Aims.{AimView, Attains, GrantServes, Serves, ToTakeOver, aim_of};
+ghost use Rattle.rbac_paths.specs.Asked.{AllowsAskedRow, AreAskedBy};
 ghost use Rattle.rbac_paths.specs.Deciding.{AreNumbersOf, AreTakingNumbers, IsLeastTaking};
-ghost use Rattle.rbac_paths.specs.Nodes.{ClusterRoleIn, OwnRole, Somebody, node_of};
+ghost use Rattle.rbac_paths.specs.Nodes.{ClusterRoleIn, NodeView, OwnRole, Somebody, node_of};
 ghost use Rattle.rbac_paths.specs.Reasons.{AnswersFirstIn, AnswersFirstServing, IsReason, reason_view};
 ghost use Rattle.rbac_paths.specs.Told.{HasItsRole};
 ghost use Rattle.rbac_paths.specs.declared.steps.Step.{Step};
@@ -16,6 +17,7 @@ ghost use Rattle.rbac_terms.specs.declared.matching.Rule.{Rule};
 use crate::aim::Aim;
 use crate::holding::{Holding, sources_of};
 use crate::node::Node;
+use crate::rows::AskedRow;
 use crate::told::StepRows;
 use rbac_model::{Grant, Policy, SourceRole, naming_place};
 use rbac_subjects::SubjectIndex;
@@ -81,65 +83,76 @@ pub(crate) fn reason_by<'p>(
         (reason_view r))) }
 {
     match from {
-        Node::Somebody(who) => Ok(by_numbers(policy, numbers, rows, who, to)),
+        Node::Somebody(who) => by_numbers(alloc, policy, numbers, rows, who, to),
         _ => reason_of(alloc, policy, index, from, Aim::TakeOver(rows, to)),
     }
 }
 
 // The grant among these by which somebody takes over a node.
 fn by_numbers<'p>(
+    alloc: Global,
     policy: &'p Policy,
     numbers: &[u32],
     rows: &StepRows,
     who: &Principal,
     to: Node<'_>,
-) -> Option<Reason<'p>>
+) -> Result<Option<Reason<'p>>, AllocError>
     requires policy { IsPolicy policy.now }
     requires within { All (λ n. n < length policy.now.grants) numbers.now }
     ensures { (steps : List Step) → Contains steps rows.now
         → AreTakingNumbers policy.now steps who.now numbers.now
-        → MatchOption result
+        → IfOk result (λ r. MatchOption r
         (¬ Attains policy.now (Somebody who.now) (ToTakeOver rows.now (node_of to.entry)))
         (λ r. IsReason policy.now (Somebody who.now) (ToTakeOver rows.now (node_of to.entry))
-        (reason_view r)) }
+        (reason_view r))) }
 {
-    let no = least_taking(policy, numbers, rows, to)?;
-    by_number(policy, who, no)
+    let asked = rows.asked_for(alloc, to)?;
+    let Some(no) = least_taking(policy, numbers, asked.as_slice()) else {
+        return Ok(None);
+    };
+    Ok(by_number(policy, who, no))
 }
 
-// The least of these numbers of grants whose rules take over a node.
-fn least_taking(policy: &Policy, numbers: &[u32], rows: &StepRows, to: Node<'_>) -> Option<u32>
+// The least of these numbers of grants whose rules allow some of what is asked.
+fn least_taking(policy: &Policy, numbers: &[u32], asked: &[AskedRow<'_>]) -> Option<u32>
     requires { All (λ n. n < length policy.now.grants) numbers.now }
-    ensures { IsLeastTaking policy.now rows.now (node_of to.entry) numbers.now result }
+    ensures { (step : Step) (y : NodeView) → AreAskedBy step y asked.now
+        → IsLeastTaking policy.now step y numbers.now result }
 {
     let mut least = None;
     for no in numbers {
-        least = lesser_taking(policy, least, *no, rows, to);
+        least = lesser_taking(policy, least, *no, asked);
     }
     least
 }
 
-// The least so far, or this number, if it is less and the grant's rule takes over the node.
+// The least so far, or this number, if it is less and the grant's rule allows some of what is asked.
 fn lesser_taking(
     policy: &Policy,
     least: Option<u32>,
     no: u32,
-    rows: &StepRows,
-    to: Node<'_>,
+    asked: &[AskedRow<'_>],
 ) -> Option<u32>
     requires { no < length policy.now.grants }
-    ensures { (numbers : List ℕ)
-        → IsLeastTaking policy.now rows.now (node_of to.entry) numbers least
-        → IsLeastTaking policy.now rows.now (node_of to.entry) (numbers ++ no ∷ []) result }
+    ensures { (step : Step) (y : NodeView) (numbers : List ℕ) → AreAskedBy step y asked.now
+        → IsLeastTaking policy.now step y numbers least
+        → IsLeastTaking policy.now step y (numbers ++ no ∷ []) result }
 {
     if !is_less(no, least) {
         return least;
     }
-    if rows.is_taken_by(&Holding::by(policy.grant(no)), to) {
+    if some_allowed(asked, &Holding::by(policy.grant(no))) {
         Some(no)
     } else {
         least
     }
+}
+
+// Whether the holding allows some of what is asked.
+fn some_allowed(asked: &[AskedRow<'_>], held: &Holding<'_>) -> bool
+    ensures { IsTrue result ↔ Any (AllowsAskedRow held.now) asked.now }
+{
+    asked.iter().any(|row| row.is_allowed_by(held))
 }
 
 // Whether the number is less than the other, if that is there.

@@ -6,12 +6,14 @@ ghost use Rattle.rbac_terms.specs.Matching.{NameMatches, VerbOk};
 ghost use Rattle.rbac_terms.specs.Targets.{Resource};
 ghost use Rattle.rbac_terms.specs.Text.{Text};
 ghost use Rattle.rbac_model.specs.Policies.{Live};
-ghost use Rattle.rbac_paths.specs.Asked.{AllowsRowFor, Asks, HasRowNameFor};
+ghost use Rattle.rbac_paths.specs.Asked.{AllowsAsked, AllowsAskedRow, AllowsRowFor, Asks, HasRowNameFor};
+ghost use Rattle.rbac_paths.specs.Asked.{IsAskedFor};
 ghost use Rattle.rbac_paths.specs.Nodes.{node_of};
 ghost use Rattle.rbac_paths.specs.Rows.{AddsRow, AreOfStep, HasRowName, HasRowResource, MatchesRow, row_view};
 ghost use Rattle.rbac_paths.specs.Steps.{AllowsRow, CountsIn, asked_in, table};
 ghost use Rattle.rbac_paths.specs.Taking.{IsOver, RowTakes};
 
+use crate::holding::Holding;
 use crate::node::Node;
 use crate::steps::Step;
 use crate::table::{Counts, Names, Over, Row, TABLE};
@@ -50,6 +52,31 @@ impl Model for WordRow {
     } };
 }
 
+/// A row that is over a node, with what its requests that take over the node ask.
+#[derive(Drop)]
+pub(crate) struct AskedRow<'a> {
+    row: &'a WordRow,
+    namespace: &'a [u8],
+    own: &'a [u8],
+}
+
+impl<'a> Model for AskedRow<'a> {
+    ghost use Rattle.rbac_paths.specs.Asked.{AskedRowView};
+
+    ghost Value = { AskedRowView };
+
+    ghost view = { λ a. record { row = a.row.now; namespace = a.namespace.now; own = a.own.now } };
+}
+
+impl<'a> AskedRow<'a> {
+    // Whether the holding allows some of the requests.
+    pub(crate) fn is_allowed_by(&self, held: &Holding<'_>) -> bool
+        ensures { IsTrue result ↔ AllowsAskedRow held.now self.now }
+    {
+        self.row.is_asked_by(held, self.namespace, self.own)
+    }
+}
+
 impl WordRow {
     fn of(alloc: Global, row: &Row) -> Result<Self, AllocError>
         ensures { IfOk result (λ r. r ≡ row_view row.now) }
@@ -82,16 +109,56 @@ impl WordRow {
         self.matches(rule) && self.has_name_of(rule)
     }
 
-    // Whether a rule that counts in this namespace, or, if there is none, in the whole cluster, allows
-    // some request of the row that takes over the node.
-    pub(crate) fn is_taken_by(&self, home: Option<&Word>, rule: &Rule, node: Node<'_>) -> bool
-        ensures { IsTrue result
-            ↔ RowTakes self.now (option_copied home.entry) rule.now (node_of node.entry) }
+    // Whether the holding allows some request of the row that takes over the node.
+    pub(crate) fn is_taken_by(&self, held: &Holding<'_>, node: Node<'_>) -> bool
+        ensures { IsTrue result ↔ RowTakes self.now held.now.home held.now.rule (node_of node.entry) }
     {
         match self.asked_of(node) {
-            Some(asked) => self.is_live(home, asked.namespace)
-                && self.is_allowed_for(rule, asked.own),
+            Some(asked) => self.is_asked_by(held, asked.namespace, asked.own),
             None => false,
+        }
+    }
+
+    // Whether some of these holdings does. What such requests ask is found once, and not again for
+    // each holding.
+    pub(crate) fn is_taken_by_some(&self, holdings: &[Holding<'_>], node: Node<'_>) -> bool
+        ensures { IsTrue result
+            ↔ Any (λ h. RowTakes self.now h.home h.rule (node_of node.entry)) holdings.now }
+    {
+        match self.asked_of(node) {
+            Some(asked) => self.is_asked_by_some(holdings, asked.namespace, asked.own),
+            None => false,
+        }
+    }
+
+    // Whether some of these holdings allows some request of the row in that namespace for what has that
+    // name.
+    fn is_asked_by_some(&self, holdings: &[Holding<'_>], namespace: &[u8], own: &[u8]) -> bool
+        ensures { IsTrue result ↔ Any (AllowsAsked self.now namespace.now own.now) holdings.now }
+    {
+        holdings
+            .iter()
+            .any(|held| self.is_asked_by(held, namespace, own))
+    }
+
+    // Whether the holding allows some request of the row in that namespace for what has that name.
+    fn is_asked_by(&self, held: &Holding<'_>, namespace: &[u8], own: &[u8]) -> bool
+        ensures { IsTrue result ↔ AllowsAsked self.now namespace.now own.now held.now }
+    {
+        self.is_live(held.home, namespace) && self.is_allowed_for(held.rule, own)
+    }
+
+    // The row with what its requests that take over the node ask, if it is over that.
+    pub(crate) fn asked_for<'a>(&'a self, node: Node<'a>) -> Option<AskedRow<'a>>
+        ensures { IsAskedFor self.now (node_of node.entry) result }
+    {
+        match self.asked_of(node) {
+            Some(asked) => Some(AskedRow {
+                row: self,
+                namespace: asked.namespace,
+                own: asked.own,
+            }),
+            None => None,
         }
     }
 

@@ -1,15 +1,17 @@
 //! Which rules of roles match some row of some steps. Each rule is asked once, however many bindings
 //! grant it.
 
-ghost use Rattle.std.specs.Prelude.{◌≡◌, ◌↔◌, IfOk, IsTrue, Some, [], false, slice_get, slice_index_or, ℕ};
+ghost use Rattle.std.specs.Prelude.{◌≡◌, ◌↔◌, ◌∷◌, IfOk, IsTrue, Some, [], false, slice_get, slice_index_or, ℕ};
 ghost use Rattle.rbac_terms.specs.declared.granting.ClusterRole.{ClusterRole};
 ghost use Rattle.rbac_terms.specs.declared.granting.Role.{Role};
 ghost use Rattle.rbac_paths.specs.Deciding.{MarkMatching, MarkRules, MatchesStep, SomeRowMatches, marks_at};
+ghost use Rattle.rbac_paths.specs.StepMarks.{MarkEach, no_marks};
 
 use crate::bound_names::matches_some;
 use crate::listed::{is_marked, listed_at};
-use crate::told::StepRows;
-use rbac_model::{Objects, RolePlace};
+use crate::steps::Step;
+use crate::told::{StepRows, rows_of_steps};
+use rbac_model::{GrantPlace, Objects, RolePlace};
 use rbac_terms::{ClusterRole, Items, Role, Rule};
 use std::alloc::{AllocError, Global};
 use std::marker::Model;
@@ -51,6 +53,14 @@ impl RuleMarks {
         is_marked(self.of_role(role), rule)
     }
 
+    // Marks the rules of these roles that match some row of the step.
+    fn of_step(alloc: Global, objects: &Objects, step: Step) -> Result<Self, AllocError>
+        ensures { IfOk result (MarkMatching objects.now (step ∷ [])) }
+    {
+        let rows = rows_of_steps(alloc, &[step])?;
+        RuleMarks::of_matching(alloc, objects, rows.as_slice())
+    }
+
     // The marks of the rules of the role at this place; none past the last.
     fn of_role(&self, role: RolePlace) -> &[bool]
         ensures { result.now ≡ marks_at self.now role }
@@ -59,6 +69,32 @@ impl RuleMarks {
             RolePlace::RoleAt(at) => listed_at(self.roles.as_slice(), at),
             RolePlace::ClusterRoleAt(at) => listed_at(self.cluster_roles.as_slice(), at),
         }
+    }
+}
+
+/// For each of these steps, marks of the rules that match some row of it.
+pub(crate) fn marks_of_steps(
+    alloc: Global,
+    objects: &Objects,
+    steps: &[StepRows],
+) -> Result<Vec<RuleMarks>, AllocError>
+    ensures { IfOk result (λ all. MarkEach objects.now steps.now all.items) }
+{
+    let mut all = Vec::with_capacity(alloc, steps.len())?;
+    for step in steps {
+        all.push(RuleMarks::of_step(alloc, objects, step.step())?)?;
+    }
+    Ok(all)
+}
+
+/// Whether the marks at this place have the rule of a grant; none past the last do.
+pub(crate) fn has_at(all: &[RuleMarks], place: usize, grant: GrantPlace) -> bool
+    ensures { result ≡ slice_index_or
+        (marks_at (slice_index_or all.now place no_marks) grant.role) grant.rule false }
+{
+    match all.get(place) {
+        Some(marks) => marks.has(grant.role, grant.rule),
+        None => false,
     }
 }
 

@@ -3,6 +3,7 @@
 ghost use Rattle.std.specs.Prelude.{◌≡◌, ◌↔◌, ◌⊎◌, Any, IfOk, IsTrue, MatchOption, None, Some};
 ghost use Rattle.std.specs.Option.{option_copied};
 ghost use Rattle.rbac_model.specs.Policies.{PolicyView};
+ghost use Rattle.rbac_paths.specs.Asked.{AreAskedBy, AreAskedFor};
 ghost use Rattle.rbac_paths.specs.Joints.{DecideOn, IsAboutNode};
 ghost use Rattle.rbac_paths.specs.Nodes.{ClusterRoleIn, node_of};
 ghost use Rattle.rbac_paths.specs.Rows.{AreOfStep};
@@ -14,9 +15,9 @@ ghost use Rattle.rbac_paths.specs.Told.{HoldingsTell, IsFirstTold, IsUntoldOf};
 
 use crate::holding::Holding;
 use crate::node::Node;
-use crate::rows::{WordRow, rows_of};
+use crate::rows::{AskedRow, WordRow, rows_of};
 use crate::steps::Step;
-use rbac_terms::{ClusterRole, Rule, Word};
+use rbac_terms::{ClusterRole, Word};
 use std::alloc::{AllocError, Global};
 use std::marker::Model;
 
@@ -63,28 +64,63 @@ impl StepRows {
     }
 
     // Whether a node that has these takes over the other by the step.
-    #[tactic(auto, unfolding(crate::specs::Told::HoldingsTake))]
     fn takes(&self, holdings: &[Holding<'_>], to: Node<'_>) -> bool
         ensures { IsTrue result ↔ HoldingsTake self.now holdings.now (node_of to.entry) }
     {
-        holdings.iter().any(|held| self.is_taken_by(held, to))
+        some_takes(self.rows.as_slice(), holdings, to)
+    }
+
+    // The rows of the step that are over the node, with what their requests ask. So that is found once,
+    // and not again for each holding.
+    pub(crate) fn asked_for<'a>(
+        &'a self,
+        alloc: Global,
+        to: Node<'a>,
+    ) -> Result<Vec<AskedRow<'a>>, AllocError>
+        ensures { IfOk result (λ asked. AreAskedBy self.now (node_of to.entry) asked.items) }
+    {
+        asked_rows(alloc, self.rows.as_slice(), to)
     }
 
     // Whether this rule takes over the node by the step.
     pub(crate) fn is_taken_by(&self, held: &Holding<'_>, to: Node<'_>) -> bool
         ensures { IsTrue result ↔ HoldingTakes self.now held.now (node_of to.entry) }
     {
-        takes_some(self.rows.as_slice(), held.home, held.rule, to)
+        takes_some(self.rows.as_slice(), held, to)
     }
 }
 
-// Whether the rule takes over a node by these rows where a binding in this namespace, or in none, is
-// live.
-fn takes_some(rows: &[WordRow], home: Option<&Word>, rule: &Rule, node: Node<'_>) -> bool
+// Whether the holding takes over a node by some of these rows.
+fn takes_some(rows: &[WordRow], held: &Holding<'_>, node: Node<'_>) -> bool
     ensures { IsTrue result
-        ↔ Any (λ row. RowTakes row (option_copied home.entry) rule.now (node_of node.entry)) rows.now }
+        ↔ Any (λ row. RowTakes row held.now.home held.now.rule (node_of node.entry)) rows.now }
 {
-    rows.iter().any(|row| row.is_taken_by(home, rule, node))
+    rows.iter().any(|row| row.is_taken_by(held, node))
+}
+
+// Whether some of these holdings takes over a node by some of these rows.
+fn some_takes(rows: &[WordRow], holdings: &[Holding<'_>], node: Node<'_>) -> bool
+    ensures { IsTrue result
+        ↔ Any (λ row. Any (λ h. RowTakes row h.home h.rule (node_of node.entry)) holdings.now) rows.now }
+{
+    rows.iter().any(|row| row.is_taken_by_some(holdings, node))
+}
+
+// Those of these rows that are over the node, with what their requests ask.
+fn asked_rows<'a>(
+    alloc: Global,
+    rows: &'a [WordRow],
+    node: Node<'a>,
+) -> Result<Vec<AskedRow<'a>>, AllocError>
+    ensures { IfOk result (λ asked. AreAskedFor rows.now (node_of node.entry) asked.items) }
+{
+    let mut asked = Vec::new(alloc);
+    for row in rows {
+        if let Some(one) = row.asked_for(node) {
+            asked.push(one)?;
+        }
+    }
+    Ok(asked)
 }
 
 /// These steps, in their order, each with its rows.

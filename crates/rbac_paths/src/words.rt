@@ -1,21 +1,24 @@
 //! The words by which users and groups can be had, and those that rules take: each has a mark that
 //! says what it is about, and then a namespace, a name or nothing.
 
-ghost use Rattle.std.specs.Prelude.{◌≡◌, ◌↔◌, ◌∷◌, Any, Contains, IfOk, IsTrue, MatchOption, None};
-ghost use Rattle.std.specs.Prelude.{OnOk, Some, map};
+ghost use Rattle.std.specs.Prelude.{◌≡◌, ◌<◌, ◌↔◌, ◌∷◌, All, Any, Contains, IfOk, IsTrue, MatchOption, None};
+ghost use Rattle.std.specs.Prelude.{OnOk, Some, length, map};
 ghost use Rattle.std.specs.Option.{option_copied};
 ghost use Rattle.rbac_terms.specs.Principals.{IsPart};
 ghost use Rattle.rbac_terms.specs.Text.{Text};
 ghost use Rattle.rbac_paths.specs.SharedWords.{AddsWords, AreHadBy, IsWordFor, LetsName};
 ghost use Rattle.rbac_paths.specs.SharedWords.{StepTakesWord, TakeWord, TakesWord, chosen_word};
+ghost use Rattle.rbac_paths.specs.StepMarks.{GrantTakesWord, MarkEach};
 ghost use Rattle.rbac_paths.specs.declared.table.Counts.TheVariants as counted;
 ghost use Rattle.rbac_paths.specs.declared.table.Over.TheVariants as over;
 
 use crate::holding::Holding;
 use crate::rows::{WordRow, has_name};
+use crate::rule_marks::{RuleMarks, has_at};
 use crate::table::{Counts, Names, Over};
 use crate::taking::{account_parts, is_user};
 use crate::told::StepRows;
+use rbac_model::Policy;
 use rbac_terms::{Principal, Rule, Word, Words, account_user};
 use std::alloc::{AllocError, Global};
 
@@ -97,6 +100,52 @@ pub(crate) fn taken_words(
         add_of_holding(alloc, steps, held, &mut words)?;
     }
     Ok(words)
+}
+
+/// The words that the grants with these numbers take by these steps, in any order; one may be there
+/// more than once. A rule is asked only by the rows of steps for which it is marked: most are marked
+/// for one, and many grants have the same rule.
+pub(crate) fn words_of_grants(
+    alloc: Global,
+    policy: &Policy,
+    steps: &[StepRows],
+    marks: &[RuleMarks],
+    numbers: &[u32],
+) -> Result<Words, AllocError>
+    requires marks { MarkEach policy.now.held steps.now marks.now }
+    requires within { All (λ n. n < length policy.now.grants) numbers.now }
+    ensures { IfOk result (λ ws. (w : Text) → Contains ws w
+        ↔ Any (GrantTakesWord policy.now steps.now w) numbers.now) }
+{
+    let mut words = Words::new(alloc);
+    for no in numbers {
+        add_of_grant(alloc, policy, steps, marks, *no, &mut words)?;
+    }
+    Ok(words)
+}
+
+// Adds the words that the grant with this number takes by these steps.
+fn add_of_grant(
+    alloc: Global,
+    policy: &Policy,
+    steps: &[StepRows],
+    marks: &[RuleMarks],
+    no: u32,
+    words: &mut Words,
+) -> Result<(), AllocError>
+    requires marks { MarkEach policy.now.held steps.now marks.now }
+    requires within { no < length policy.now.grants }
+    ensures { OnOk result
+        (AddsWords (λ w. GrantTakesWord policy.now steps.now w no) words.old words.new) }
+{
+    let at = policy.place(no);
+    let held = Holding::by(policy.grant(no));
+    for (place, step) in steps.iter().enumerate() {
+        if has_at(marks, place, at) {
+            add_of_step(alloc, step, &held, words)?;
+        }
+    }
+    Ok(())
 }
 
 // Adds the words that a holding takes by these steps.

@@ -2,10 +2,12 @@ use Rattle.std.proofs.Common.{◌≡◌, ◌∙◌, List, Some, ℕ, arith, get_
 use Rattle.std.proofs.lemmas.List.{length-map}
 use Rattle.std.proofs.lemmas.List.Elements.{Contains-get_or}
 use Rattle.std.proofs.lemmas.Option.{same_Some}
-use Rattle.rbac_paths.specs.Deciding.{AreNumbersOf, IsAnyNode}
+use Rattle.rbac_model.specs.Policies.{Held}
+use Rattle.rbac_paths.specs.Deciding.{AreNumbersOf, IsAnyNode, MarksView}
 use Rattle.rbac_paths.specs.Having.{HoldingView}
 use Rattle.rbac_paths.specs.Joints.{AreJoints, AreOtherPlaces, AreOthers, DecideOn, TakesByWords}
 use Rattle.rbac_paths.specs.Nodes.{NodeView, node_of}
+use Rattle.rbac_paths.specs.StepMarks.{MarkEach}
 use Rattle.rbac_paths.specs.Told.{HasItsRole}
 use Rattle.rbac_paths.proofs.GraphOf.{graph_is, joints_more, ok_both}
 use Rattle.rbac_paths.proofs.Mapped.{mapped_at, mapped_has}
@@ -31,6 +33,18 @@ pub others_taken-requires-clause-others : goal.others_taken-requires-clause-othe
 others_taken-requires-clause-others c =
     subst (AreOtherPlaces (map node_of c.args.nodes.now)) (sym c.as_slice-others.ensures.value) c.in_ok-others.ensures
 
+pub words_taken-requires-clause-marks : goal.words_taken-requires-clause-marks
+words_taken-requires-clause-marks c =
+    subst (λ (all : List MarksView). MarkEach c.args.policy.now.held c.args.steps.now all) (sym c.as_slice-marks.ensures.value)
+    (subst (λ (h : Held). MarkEach h c.args.steps.now c.in_ok-marks.marks.items) c.objects.ensures.held c.in_ok-marks.ensures)
+
+pub words_taken-requires-clause-numbers : goal.words_taken-requires-clause-numbers
+words_taken-requires-clause-numbers c =
+    let place = c.loop-place.place in
+    let x = node_of c.index-nodes-place.result in
+    let at = mapped_at node_of c.args.nodes.now place c.index-nodes-place.result c.loop-place-test.true c.index-nodes-place.is in
+    subst (AreNumbersOf c.args.policy.now c.args.steps.now x) (sym c.listed_at-own.ensures) (c.requires.numbers.each place x c.loop-place-test.true at)
+
 pub loop-place-preserved : goal.loop-place-preserved
 loop-place-preserved c =
     let p = c.args.policy.now in
@@ -48,7 +62,7 @@ loop-place-preserved c =
     let js = c.in_ok-others_taken.field-0 in
     rw (c.in_ok-push.ensures.items, c.in_ok-push-2.ensures.items)
     (joints_more p steps ys place c.loop-place.takes.items c.loop-place.also.items ws js c.loop-place.invariant
-    (λ y there. subst (λ (z : NodeView). TakesByWords p steps z ws) (is y there) (c.in_ok-words_taken.ensures p held))
+    (λ y there. subst (λ (z : NodeView). TakesByWords p steps z ws) (is y there) (c.in_ok-words_taken.ensures held))
     (λ y there. subst (λ (z : NodeView). AreOthers p steps z ys js) (is y there) (c.in_ok-others_taken.ensures p held)))
 
 pub returns : goal.returns

@@ -1,11 +1,19 @@
+use Rattle.std.proofs.Common.{ap, get_or}
+use Rattle.std.proofs.lemmas.List.Elements.{Contains-get_or}
 use Rattle.std.proofs.lemmas.Result.{IfOk-weaker}
-use Rattle.rbac_paths.specs.Nodes.{node_of}
 use Rattle.rbac_paths.specs.Joints.{TakesByWords}
-use Rattle.rbac_paths.proofs.WordsTaken.{takes_by_words}
+use Rattle.rbac_paths.specs.Nodes.{node_of}
+use Rattle.rbac_paths.proofs.GrantWords.{takes_by_grants}
+use Rattle.rbac_paths.proofs.WhatDecides.{numbers_within}
 use Rattle.rbac_paths.proofs.graph.words_taken.Goals as goal
 
-pub returns-then-goes_further : goal.returns-then-goes_further
-returns-then-goes_further c p decide =
+pub words_of_grants-requires-clause-within : goal.words_of_grants-requires-clause-within
+words_of_grants-requires-clause-within c =
+    let numbers = c.args.numbers.now in
+    λ k d low. numbers_within c.args.policy.now c.args.steps.now (node_of c.args.node) numbers c.requires.numbers (get_or numbers k d) (Contains-get_or numbers k d low)
+
+pub returns-in-Somebody : goal.returns-in-Somebody
+returns-in-Somebody c decide =
     let x = node_of c.args.node in
-    IfOk-weaker c.taken_words.result _ (λ ws. TakesByWords p c.args.steps.now x ws)
-    (λ ws exact. takes_by_words p x c.args.holdings.now c.args.steps.now decide (λ who. (c.goes_further.ensures who).0 c.if-goes_further.true) ws exact) c.taken_words.ensures
+    IfOk-weaker c.words_of_grants.result _ (λ ws. TakesByWords c.args.policy.now c.args.steps.now x ws)
+    (λ ws exact. takes_by_grants c.args.policy.now c.requires.policy c.args.steps.now x _ (ap node_of c.in-Somebody.is) c.args.numbers.now c.requires.numbers ws exact) c.words_of_grants.ensures

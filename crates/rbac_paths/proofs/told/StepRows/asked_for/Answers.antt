@@ -1,0 +1,18 @@
+use Rattle.std.proofs.Common.{List, subst, sym}
+use Rattle.std.proofs.lemmas.Result.{IfOk-weaker}
+use Rattle.rbac_paths.specs.Asked.{AreAskedBy, AreAskedFor}
+use Rattle.rbac_paths.specs.Nodes.{node_of}
+use Rattle.rbac_paths.specs.Rows.{AreOfStep}
+use Rattle.rbac_paths.specs.Steps.{StepRowView, table}
+use Rattle.rbac_paths.proofs.RowsOfStep.{by_rows, in_rows}
+use Rattle.rbac_paths.proofs.told.StepRows.asked_for.Goals as goal
+
+pub returns : goal.returns
+returns c =
+    let step = c.self.inside.step in
+    let rows = c.as_slice.result.now in
+    let of = subst (λ (rows : List StepRowView). AreOfStep step table rows) (sym c.as_slice.ensures.value) c.self.invariant in
+    let to = node_of c.args.to in
+    rw (← c.self.view_is) (
+    IfOk-weaker c.asked_rows.result (λ asked. AreAskedFor rows to asked.items) (λ asked. AreAskedBy step to asked.items)
+    (λ asked are h. (λ t. by_rows step rows of to h ((are h).0 t), λ w. (are h).1 (in_rows step rows of to h w))) c.asked_rows.ensures)
