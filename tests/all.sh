@@ -2,8 +2,8 @@
 # The whole gate: each edit still fits, every proof, must-fail edit and test by `rt ci`, which wrong bodies a change wants
 # tried, what only a process can show, the kubectl plugin, completions and man page, the page in a browser, lines as tables
 # and as JSON, what make dist packs, random matrices, universes, rules, changes, powers and paths, bad documents, refused
-# memory, reads and writes, and each public call by itself. The last line counts all of it, as `N passed, M failed`; if a
-# test skipped something that this machine lacks, the last line but one says what.
+# memory, reads and writes, and each public call by itself. The last line counts all of it, as `N passed, M failed`. Above it
+# stands what the gate took; if a test skipped something that this machine lacks, a line between the two says what.
 set -u
 cd "$(dirname "$0")/.."
 log=$(mktemp)
@@ -51,6 +51,12 @@ counted python3 tests/paths.py
 counted python3 tests/memory.py
 counted python3 tests/fuzz.py 1 2000
 counted python3 tests/calls.py --once
+
+# The processor time of all that this shell waited for, as `times` prints it in its second line: user and system, each as MINUTESmSECONDSs.
+times >"$log"
+awk -v seconds="$SECONDS" -v processors="$processors" -F '[ ms]+' 'NR == 2 {
+    printf "took %.1f processor minutes, in %.1f minutes on %d processors\n", $1 + $3 + ($2 + $4) / 60, seconds / 60, processors
+}' "$log"
 [ -z "$skipped" ] || echo "skipped: ${skipped#; }"
 echo "$passed passed, $failed failed"
 [ "$failed" -eq 0 ]
