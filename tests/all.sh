@@ -34,8 +34,17 @@ if [ "$(awk '/^MemAvailable/ { print int($2 / 4000000) }' /proc/meminfo)" -ge "$
     export RT_JOBS="${RT_JOBS:-$processors}"
 fi
 
+# Puts into `spent` the processor minutes of all that this shell has waited for. They are in the second line of `times`: user and
+# system, each as MINUTESmSECONDSs.
+measure() {
+    times >"$log"
+    spent=$(awk -F '[ ms]+' 'NR == 2 { printf "%.1f", $1 + $3 + ($2 + $4) / 60 }' "$log")
+}
+
 counted python3 tests/edits.py
 counted rt ci
+measure
+proving=$spent
 counted python3 tests/chosen_edits.py
 counted python3 tests/program.py
 counted python3 tests/plugin.py
@@ -52,11 +61,8 @@ counted python3 tests/memory.py
 counted python3 tests/fuzz.py 1 2000
 counted python3 tests/calls.py --once
 
-# The processor time of all that this shell waited for, as `times` prints it in its second line: user and system, each as MINUTESmSECONDSs.
-times >"$log"
-awk -v seconds="$SECONDS" -v processors="$processors" -F '[ ms]+' 'NR == 2 {
-    printf "took %.1f processor minutes, in %.1f minutes on %d processors\n", $1 + $3 + ($2 + $4) / 60, seconds / 60, processors
-}' "$log"
+measure
+echo "took $spent processor minutes, $proving of them up to the end of rt ci, in $((SECONDS / 60)) minutes on $processors processors"
 [ -z "$skipped" ] || echo "skipped: ${skipped#; }"
 echo "$passed passed, $failed failed"
 [ "$failed" -eq 0 ]
