@@ -4,7 +4,6 @@ use rbac_terms::{Items, Word, Words};
 
 /// An entry of an API resource list (Kubernetes API, APIResource). Several entries with one group
 /// and name, from several versions of the group, are about one resource.
-#[derive(Drop)]
 pub struct Entry {
     /// The API group, empty for the core group.
     pub group: Word,
@@ -18,6 +17,19 @@ pub struct Entry {
     pub namespaced: bool,
     /// The verbs that the API server supports on it.
     pub verbs: Words,
+}
+
+impl Drop for Entry {
+    fn drop(self) {
+        let Self {
+            group,
+            name,
+            singular,
+            short_names,
+            namespaced,
+            verbs,
+        } = self;
+    }
 }
 
 /// The entries of an API resource list, in the order given.

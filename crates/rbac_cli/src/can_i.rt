@@ -17,10 +17,15 @@ use rbac_text::put_why;
 use std::alloc::{AllocError, Global};
 
 // A verdict: its whole text and its status.
-#[derive(Drop)]
 pub(crate) struct Verdict {
     pub(crate) text: Vec<u8>,
     pub(crate) status: Status,
+}
+
+impl Drop for Verdict {
+    fn drop(self) {
+        let Self { text, status } = self;
+    }
 }
 
 /// The verdict on whether the principal is allowed what the question asks. With `quiet` it has a

@@ -20,12 +20,20 @@ use rbac_streams::Input;
 use std::alloc::Global;
 
 /// What an action is answered over.
-#[derive(Drop)]
 pub(crate) enum Exports {
     /// One export.
     Single(Export),
     /// The policy before a change, and the one after it.
     Pair(Policy, Policy),
+}
+
+impl Drop for Exports {
+    fn drop(self) {
+        match self {
+            Self::Single(_) => {}
+            Self::Pair(_, _) => {}
+        }
+    }
 }
 
 /// Loads the inputs of an action: of `diff` those before the change by themselves, and then what is

@@ -85,11 +85,20 @@ fn print_rows<W: Write + Drop>(
 }
 
 // What a matrix is built on: a universe, an index, and the reach of each grant.
-#[derive(Drop)]
 struct MatrixBasis<'p> {
     universe: Universe,
     index: Index<'p>,
     reaches: Vec<Reach>,
+}
+
+impl Drop for MatrixBasis<'_> {
+    fn drop(self) {
+        let Self {
+            universe,
+            index,
+            reaches,
+        } = self;
+    }
 }
 
 // What the matrix of what was loaded is built on.

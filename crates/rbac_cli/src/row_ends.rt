@@ -12,11 +12,16 @@ use std::alloc::{AllocError, Global};
 
 /// How the line of a row begins and ends: with its principal, namespace and verb, and with its
 /// binding. Most rows have those of the row before, so these are printed once for all of them.
-#[derive(Drop)]
 pub(crate) struct RowEnds {
     // What stands before the row's target, and after it.
     front: Vec<u8>,
     back: Vec<u8>,
+}
+
+impl Drop for RowEnds {
+    fn drop(self) {
+        let Self { front, back } = self;
+    }
 }
 
 impl RowEnds {

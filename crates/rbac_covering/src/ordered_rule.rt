@@ -12,7 +12,6 @@ use std::marker::Model;
 
 /// A rule, with the words of its long lists in byte order, so that one of them is found by halving.
 /// It holds copies of those words.
-#[derive(Drop)]
 pub struct OrderedRule<'a> {
     rule: &'a Rule,
     verbs: WordLookup<'a>,
@@ -20,6 +19,19 @@ pub struct OrderedRule<'a> {
     resources: WordLookup<'a>,
     names: WordLookup<'a>,
     urls: WordLookup<'a>,
+}
+
+impl Drop for OrderedRule<'_> {
+    fn drop(self) {
+        let Self {
+            rule,
+            verbs,
+            groups,
+            resources,
+            names,
+            urls,
+        } = self;
+    }
 }
 
 impl<'a> Model for OrderedRule<'a> {

@@ -14,10 +14,15 @@ use std::alloc::{AllocError, Global};
 
 // Flags for the bindings of two policies, one for each in order. A binding that isn't flagged grants
 // no more than one of the other policy.
-#[derive(Drop)]
 pub(crate) struct Changed {
     pub(crate) before: Vec<bool>,
     pub(crate) after: Vec<bool>,
+}
+
+impl Drop for Changed {
+    fn drop(self) {
+        let Self { before, after } = self;
+    }
 }
 
 impl Changed {

@@ -15,10 +15,18 @@ use std::alloc::{AllocError, Global};
 // For each role of a policy, and for each cluster role, the place of the other policy's of the same
 // name, if that one's rules cover this one's, one by one. Most roles stay, and most are referred to
 // by several bindings.
-#[derive(Drop)]
 pub(crate) struct CoveredRoles {
     pub(crate) roles: Vec<Option<usize>>,
     pub(crate) cluster_roles: Vec<Option<usize>>,
+}
+
+impl Drop for CoveredRoles {
+    fn drop(self) {
+        let Self {
+            roles,
+            cluster_roles,
+        } = self;
+    }
 }
 
 impl CoveredRoles {

@@ -15,13 +15,24 @@ use std::alloc::{AllocError, Global};
 use std::marker::Model;
 
 // A policy, with the principals that stand in for members of groups.
-#[derive(Drop)]
 pub(crate) struct AskedPolicy<'p> {
     policy: &'p Policy,
     subjects: SubjectIndex<'p>,
     signed_in: Principal,
     anonymous: Principal,
     nowhere: Word,
+}
+
+impl Drop for AskedPolicy<'_> {
+    fn drop(self) {
+        let Self {
+            policy,
+            subjects,
+            signed_in,
+            anonymous,
+            nowhere,
+        } = self;
+    }
 }
 
 impl<'p> Model for AskedPolicy<'p> {

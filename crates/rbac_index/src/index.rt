@@ -32,13 +32,23 @@ use std::marker::Model;
 /// The rules of a policy's roles, each listed once under the words of its resources, and the runs
 /// of grants by each role's rules. A question looks only at rules that may match and at bindings
 /// that may be live.
-#[derive(Drop)]
 pub struct Index<'p> {
     policy: &'p Policy,
     listed: ListedRules<'p>,
     // Where the runs of grants by each row of rules begin.
     starts: Vec<GrantNos>,
     subjects: SubjectIndex<'p>,
+}
+
+impl Drop for Index<'_> {
+    fn drop(self) {
+        let Self {
+            policy,
+            listed,
+            starts,
+            subjects,
+        } = self;
+    }
 }
 
 impl<'p> Model for Index<'p> {

@@ -13,17 +13,27 @@ use std::alloc::{AllocError, Global};
 use std::collections::BTreeMap;
 
 // The numbers of the rules under each of their resource words, and of the rules with URLs.
-#[derive(Drop)]
 pub(crate) struct RuleLists {
     pub(crate) by_word: BTreeMap<Word, Items<usize>>,
     pub(crate) with_urls: Items<usize>,
 }
 
+impl Drop for RuleLists {
+    fn drop(self) {
+        let Self { by_word, with_urls } = self;
+    }
+}
+
 // Rules, and lists of them by their places.
-#[derive(Drop)]
 pub(crate) struct ListedRules<'p> {
     pub(crate) rules: Vec<Written<'p>>,
     pub(crate) lists: RuleLists,
+}
+
+impl Drop for ListedRules<'_> {
+    fn drop(self) {
+        let Self { rules, lists } = self;
+    }
 }
 
 // The rules of these rows, one row after the other, and lists of them.

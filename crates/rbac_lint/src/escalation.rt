@@ -26,13 +26,24 @@ const BIND: &[u8] = b"bind";
 const ESCALATE: &[u8] = b"escalate";
 
 // The verbs that let a subject grant more than it has, and what they are used on.
-#[derive(Drop)]
 struct EscalationWords {
     bind: Word,
     escalate: Word,
     group: Word,
     roles: Word,
     cluster_roles: Word,
+}
+
+impl Drop for EscalationWords {
+    fn drop(self) {
+        let Self {
+            bind,
+            escalate,
+            group,
+            roles,
+            cluster_roles,
+        } = self;
+    }
 }
 
 fn escalation_words(alloc: Global) -> Result<EscalationWords, AllocError>

@@ -13,7 +13,7 @@ use std::alloc::{AllocError, Global};
 use std::marker::Model;
 
 /// A finding (own). Its texts aren't escaped.
-#[derive(Debug, Drop)]
+#[derive(Debug)]
 pub struct Finding {
     /// What was found, as a number from 1: a dangling reference, an unused role, a redundant rule,
     /// a rule that escalates, an account without a namespace, a stale aggregate, or a replaced
@@ -26,6 +26,17 @@ pub struct Finding {
     /// More about the finding: the role that is named, the number of the covering rule from 1, the
     /// verb, the account's name, or how many documents were replaced; otherwise empty.
     pub other: Word,
+}
+
+impl Drop for Finding {
+    fn drop(self) {
+        let Self {
+            code,
+            object,
+            place,
+            other,
+        } = self;
+    }
 }
 
 /// Findings, in order: as many as fit in memory.

@@ -75,7 +75,6 @@ pub(crate) enum Field {
 }
 
 // The places of a role's rules under the words of each of their lists.
-#[derive(Drop)]
 pub(crate) struct RulesByWord {
     pub(crate) star: Word,
     verbs: BTreeMap<Word, Places>,
@@ -84,6 +83,20 @@ pub(crate) struct RulesByWord {
     names: BTreeMap<Word, Places>,
     urls: BTreeMap<Word, Places>,
     pub(crate) prefixes: Vec<Prefix>,
+}
+
+impl Drop for RulesByWord {
+    fn drop(self) {
+        let Self {
+            star,
+            verbs,
+            groups,
+            resources,
+            names,
+            urls,
+            prefixes,
+        } = self;
+    }
 }
 
 // The word that stands for all words.

@@ -5,7 +5,6 @@ use rbac_terms::{Word, Words};
 use rbac_universe::{ListedResources, Principals};
 
 /// A ServiceAccount object.
-#[derive(Drop)]
 pub struct Account {
     /// Its namespace.
     pub namespace: Word,
@@ -13,9 +12,14 @@ pub struct Account {
     pub name: Word,
 }
 
+impl Drop for Account {
+    fn drop(self) {
+        let Self { namespace, name } = self;
+    }
+}
+
 /// The lists that a Universe document gives (own). A list that it doesn't give is left to the
 /// documents before it, or is derived if none of them gives it.
-#[derive(Drop)]
 pub struct GivenLists {
     /// Users, with the groups given to them, and members of groups.
     pub principals: Option<Principals>,
@@ -29,4 +33,17 @@ pub struct GivenLists {
     pub names: Option<Words>,
     /// Paths of URLs.
     pub urls: Option<Words>,
+}
+
+impl Drop for GivenLists {
+    fn drop(self) {
+        let Self {
+            principals,
+            namespaces,
+            verbs,
+            resources,
+            names,
+            urls,
+        } = self;
+    }
 }

@@ -17,10 +17,15 @@ use std::alloc::Global;
 use std::marker::Model;
 
 /// What inputs give, once all of them are accepted, with the lists that a universe is made of.
-#[derive(Drop)]
 pub struct Loaded {
     export: Export,
     lists: UniverseLists,
+}
+
+impl Drop for Loaded {
+    fn drop(self) {
+        let Self { export, lists } = self;
+    }
 }
 
 impl Model for Loaded {

@@ -29,7 +29,6 @@ use std::alloc::{AllocError, Global};
 use std::marker::Model;
 
 /// What inputs give, once all of them are accepted; the lists of a universe are derived from it.
-#[derive(Drop)]
 pub struct Export {
     policy: Policy,
     catalogue: Catalogue,
@@ -37,6 +36,19 @@ pub struct Export {
     accounts: Vec<Account>,
     documents: Vec<GivenLists>,
     replaced: Vec<Replaced>,
+}
+
+impl Drop for Export {
+    fn drop(self) {
+        let Self {
+            policy,
+            catalogue,
+            namespaces,
+            accounts,
+            documents,
+            replaced,
+        } = self;
+    }
 }
 
 impl Model for Export {

@@ -12,7 +12,7 @@ use rbac_terms::Word;
 use std::alloc::{AllocError, Global};
 
 /// An object given by several documents; the last of them is kept (own).
-#[derive(Debug, Drop)]
+#[derive(Debug)]
 pub struct Replaced {
     /// Its kind, for example `Role`.
     pub kind: Word,
@@ -22,6 +22,17 @@ pub struct Replaced {
     pub name: Word,
     /// How many earlier documents were replaced: at least one.
     pub earlier: usize,
+}
+
+impl Drop for Replaced {
+    fn drop(self) {
+        let Self {
+            kind,
+            namespace,
+            name,
+            earlier,
+        } = self;
+    }
 }
 
 // The objects that several of these documents give, each with how many documents were replaced.

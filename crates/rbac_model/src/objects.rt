@@ -22,11 +22,20 @@ pub enum Object {
 }
 
 /// The objects that are held: one for each kind, namespace and name, ordered by these.
-#[derive(Drop)]
 pub struct Objects {
     roles: Vec<Role>,
     cluster_roles: Vec<ClusterRole>,
     bindings: Vec<Binding>,
+}
+
+impl Drop for Objects {
+    fn drop(self) {
+        let Self {
+            roles,
+            cluster_roles,
+            bindings,
+        } = self;
+    }
 }
 
 impl Model for Objects {

@@ -21,11 +21,20 @@ use std::marker::Model;
 
 /// Objects, and the grants that follow from them: at most a million, numbered from 0 in order of
 /// bindings, then of the rules of a binding's role.
-#[derive(Drop)]
 pub struct Policy {
     objects: Objects,
     reached: Vec<PlaceSet>,
     grants: Vec<GrantPlace>,
+}
+
+impl Drop for Policy {
+    fn drop(self) {
+        let Self {
+            objects,
+            reached,
+            grants,
+        } = self;
+    }
 }
 
 impl Model for Policy {

@@ -40,7 +40,6 @@ use std::marker::Model;
 
 /// A node that somebody comes to, and the last step of a path there that has the fewest steps.
 /// Contracts see its nodes by what they refer to.
-#[derive(Drop)]
 pub struct Path<'p> {
     /// How many steps lead there, at least.
     pub count: usize,
@@ -52,6 +51,18 @@ pub struct Path<'p> {
     pub step: Step,
     /// Why it is one.
     pub reason: Reason<'p>,
+}
+
+impl Drop for Path<'_> {
+    fn drop(self) {
+        let Self {
+            count,
+            node,
+            before,
+            step,
+            reason,
+        } = self;
+    }
 }
 
 impl<'p> Model for Path<'p> {

@@ -43,7 +43,6 @@ use std::marker::Model;
 
 /// A node from which steps lead to one that allows what is asked for, and the first step of such a way
 /// that has the fewest. Contracts see its nodes by what they refer to.
-#[derive(Drop)]
 pub struct Way<'p> {
     /// How many steps lead there, at least; 0 if the node itself allows it.
     pub count: usize,
@@ -53,6 +52,17 @@ pub struct Way<'p> {
     pub next: Option<Next<'p>>,
     /// Why that is one, or, if there is none, why the node itself allows what is asked for.
     pub reason: Reason<'p>,
+}
+
+impl Drop for Way<'_> {
+    fn drop(self) {
+        let Self {
+            count,
+            node,
+            next,
+            reason,
+        } = self;
+    }
 }
 
 /// The first step of a way.

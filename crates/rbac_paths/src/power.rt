@@ -11,7 +11,6 @@ use std::vec::IntoIter;
 
 /// A step that a user or a group can take, where, and why. Contracts see its grant by what it refers
 /// to.
-#[derive(Drop)]
 pub struct Power<'p> {
     /// The step.
     pub step: Step,
@@ -22,6 +21,17 @@ pub struct Power<'p> {
     pub grant: Grant<'p>,
     /// The place of the first subject with the key in the grant's binding, from 0.
     pub subject_place: usize,
+}
+
+impl Drop for Power<'_> {
+    fn drop(self) {
+        let Self {
+            step,
+            who,
+            grant,
+            subject_place,
+        } = self;
+    }
 }
 
 impl<'p> Model for Power<'p> {

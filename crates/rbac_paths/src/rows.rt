@@ -25,7 +25,6 @@ use std::alloc::{AllocError, Global};
 use std::marker::Model;
 
 /// A row of the table, its texts as words.
-#[derive(Drop)]
 pub(crate) struct WordRow {
     step: Step,
     pub(crate) names: Names,
@@ -34,6 +33,20 @@ pub(crate) struct WordRow {
     group: Word,
     resources: Words,
     pub(crate) over: Over,
+}
+
+impl Drop for WordRow {
+    fn drop(self) {
+        let Self {
+            step,
+            names,
+            counts,
+            verbs,
+            group,
+            resources,
+            over,
+        } = self;
+    }
 }
 
 impl Model for WordRow {

@@ -17,10 +17,18 @@ use std::alloc::{AllocError, Global};
 use std::marker::Model;
 
 /// For each role of each kind, a mark for each of its rules.
-#[derive(Drop)]
 pub(crate) struct RuleMarks {
     roles: Vec<Items<bool>>,
     cluster_roles: Vec<Items<bool>>,
+}
+
+impl Drop for RuleMarks {
+    fn drop(self) {
+        let Self {
+            roles,
+            cluster_roles,
+        } = self;
+    }
 }
 
 impl Model for RuleMarks {

@@ -12,7 +12,6 @@ use std::alloc::{AllocError, Global};
 use std::marker::Model;
 
 /// What a question asks for (own).
-#[derive(Drop)]
 pub enum AskedFor {
     /// A URL, given by its path, which begins with a slash.
     Url(Word),
@@ -25,6 +24,19 @@ pub enum AskedFor {
         /// The object name.
         name: Word,
     },
+}
+
+impl Drop for AskedFor {
+    fn drop(self) {
+        match self {
+            Self::Url(_) => {}
+            Self::Resource {
+                word: _,
+                subresource: _,
+                name: _,
+            } => {}
+        }
+    }
 }
 
 /// What a question can ask for, with its path or type word as [`AskedFor`] says (own).

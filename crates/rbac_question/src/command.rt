@@ -7,7 +7,6 @@ use rbac_token::Mark;
 
 /// Whether a verb may be used on what is asked for, in a namespace (own, after `kubectl auth
 /// can-i`).
-#[derive(Drop)]
 pub struct Question {
     /// What `-n` names, or `default`; empty with `-A`.
     pub namespace: Word,
@@ -17,6 +16,17 @@ pub struct Question {
     pub verb: Word,
     /// What TARGET and `--subresource` ask for.
     pub asked: Asked,
+}
+
+impl Drop for Question {
+    fn drop(self) {
+        let Self {
+            namespace,
+            in_namespace,
+            verb,
+            asked,
+        } = self;
+    }
 }
 
 /// Which holders `who-can` lists, and what of each.
@@ -54,7 +64,6 @@ pub enum Change {
 }
 
 /// What to do.
-#[derive(Drop)]
 pub enum Action {
     /// Answers whether the principal is allowed what is asked: yes or no.
     CanI {
@@ -127,11 +136,60 @@ pub enum Action {
     },
 }
 
+impl Drop for Action {
+    fn drop(self) {
+        match self {
+            Self::CanI {
+                principal: _,
+                quiet: _,
+                why: _,
+                question: _,
+            } => {}
+            Self::WhoCan {
+                options: _,
+                question: _,
+            } => {}
+            Self::WaysTo {
+                steps: _,
+                question: _,
+            } => {}
+            Self::Rules {
+                principal: _,
+                scope: _,
+            } => {}
+            Self::Matrix {
+                options: _,
+                after: _,
+                limit: _,
+            } => {}
+            Self::Universe => {}
+            Self::Lint {
+                only: _,
+                skip_system: _,
+            } => {}
+            Self::Powers => {}
+            Self::Paths {
+                principal: _,
+                steps: _,
+            } => {}
+            Self::Diff {
+                before: _,
+                change: _,
+            } => {}
+        }
+    }
+}
+
 /// A command line that was accepted.
-#[derive(Drop)]
 pub struct Command {
     /// What to do with the files.
     pub action: Action,
     /// The names of the files to read, in order; without any, standard input is read.
     pub files: Vec<String>,
+}
+
+impl Drop for Command {
+    fn drop(self) {
+        let Self { action, files } = self;
+    }
 }

@@ -8,7 +8,6 @@ use std::alloc::{AllocError, Global};
 use std::marker::Model;
 
 // The groups that a user is given, as given: in order, with repeats. Contracts see them as a list.
-#[derive(Drop)]
 pub(crate) struct GivenGroups {
     given: Words,
     // The texts again, sorted, because a user with thousands of groups may be looked up for each of
@@ -16,6 +15,12 @@ pub(crate) struct GivenGroups {
     // groups of another entry were added: a user may have a million entries, and sorting at each
     // would take time quadratic in their number.
     sorted: Option<Vec<Word>>,
+}
+
+impl Drop for GivenGroups {
+    fn drop(self) {
+        let Self { given, sorted } = self;
+    }
 }
 
 impl Model for GivenGroups {

@@ -16,7 +16,6 @@ use crate::text::{Word, Words};
 use std::alloc::{AllocError, Global};
 
 /// A role of one namespace (Using RBAC Authorization, "Role and ClusterRole").
-#[derive(Drop)]
 pub struct Role {
     /// The role's namespace.
     pub namespace: Word,
@@ -26,9 +25,18 @@ pub struct Role {
     pub rules: Rules,
 }
 
+impl Drop for Role {
+    fn drop(self) {
+        let Self {
+            namespace,
+            name,
+            rules,
+        } = self;
+    }
+}
+
 /// A role of the whole cluster, whose rules may be gathered from others (Using RBAC Authorization,
 /// "Role and ClusterRole", "Aggregated ClusterRoles").
-#[derive(Drop)]
 pub struct ClusterRole {
     /// The role's name, unique within the cluster.
     pub name: Word,
@@ -41,9 +49,19 @@ pub struct ClusterRole {
     pub aggregation: Option<Selectors>,
 }
 
+impl Drop for ClusterRole {
+    fn drop(self) {
+        let Self {
+            name,
+            labels,
+            rules,
+            aggregation,
+        } = self;
+    }
+}
+
 /// The role that a binding grants, by name (Using RBAC Authorization, "RoleBinding and
 /// ClusterRoleBinding").
-#[derive(Drop)]
 pub enum RoleRef {
     /// The Role of this name, in the binding's own namespace.
     Role(Word),
@@ -51,8 +69,16 @@ pub enum RoleRef {
     ClusterRole(Word),
 }
 
+impl Drop for RoleRef {
+    fn drop(self) {
+        match self {
+            Self::Role(_) => {}
+            Self::ClusterRole(_) => {}
+        }
+    }
+}
+
 /// Who a binding grants its role to (Using RBAC Authorization, "Referring to subjects").
-#[derive(Drop)]
 pub enum Subject {
     /// The user of this name.
     User(Word),
@@ -67,12 +93,24 @@ pub enum Subject {
     },
 }
 
+impl Drop for Subject {
+    fn drop(self) {
+        match self {
+            Self::User(_) => {}
+            Self::Group(_) => {}
+            Self::Account {
+                namespace: _,
+                name: _,
+            } => {}
+        }
+    }
+}
+
 /// The subjects of a binding in their written order: as many as fit in memory.
 pub type Subjects = Items<Subject>;
 
 /// A binding of a role to subjects (Using RBAC Authorization, "RoleBinding and
 /// ClusterRoleBinding").
-#[derive(Drop)]
 pub struct Binding {
     /// A RoleBinding's namespace; a ClusterRoleBinding has none.
     pub namespace: Option<Word>,
@@ -82,6 +120,17 @@ pub struct Binding {
     pub role: RoleRef,
     /// The subjects that it grants the role to.
     pub subjects: Subjects,
+}
+
+impl Drop for Binding {
+    fn drop(self) {
+        let Self {
+            namespace,
+            name,
+            role,
+            subjects,
+        } = self;
+    }
 }
 
 /// Whether a subject of a binding in that namespace, or of a ClusterRoleBinding if there is none,

@@ -13,7 +13,6 @@ use std::marker::Model;
 /// The key of a request: the principal's key, the namespace, verb, API group, resource text or URL,
 /// and object name. A request for a URL has no namespace, API group or object name. Keys are
 /// ordered text by text in this order, each text byte by byte (own).
-#[derive(Drop)]
 pub struct Key {
     principal: Word,
     namespace: Word,
@@ -21,6 +20,19 @@ pub struct Key {
     group: Word,
     resource: Word,
     name: Word,
+}
+
+impl Drop for Key {
+    fn drop(self) {
+        let Self {
+            principal,
+            namespace,
+            verb,
+            group,
+            resource,
+            name,
+        } = self;
+    }
 }
 
 impl Model for Key {

@@ -14,7 +14,6 @@ use crate::text::{Word, Words, cut_at_first};
 /// A rule of a role: which verbs may be used on which resources or URLs (Using RBAC Authorization,
 /// "API objects"). Any lists of words are accepted here; the loader decides what a manifest may
 /// contain.
-#[derive(Drop)]
 pub struct Rule {
     /// Verbs, or `*` for every verb.
     pub verbs: Words,
@@ -27,6 +26,18 @@ pub struct Rule {
     pub resource_names: Words,
     /// URL paths; a `*` at the end of one stands for any ending.
     pub urls: Words,
+}
+
+impl Drop for Rule {
+    fn drop(self) {
+        let Self {
+            verbs,
+            groups,
+            resources,
+            resource_names,
+            urls,
+        } = self;
+    }
 }
 
 /// The rules of a role in their written order: as many as fit in memory.

@@ -49,12 +49,22 @@ pub const UNAUTHENTICATED: &[u8] = b"system:unauthenticated";
 /// path. A resource text isn't empty and doesn't begin with a slash; a URL begins with one (own,
 /// after the paths of API requests). What follows the first slash of a resource text is its
 /// subresource.
-#[derive(Drop)]
 pub struct Target {
     is_url: bool,
     group: Word,
     text: Word,
     name: Word,
+}
+
+impl Drop for Target {
+    fn drop(self) {
+        let Self {
+            is_url,
+            group,
+            text,
+            name,
+        } = self;
+    }
 }
 
 impl Model for Target {
@@ -160,11 +170,21 @@ pub fn is_resource_text(text: &[u8]) -> bool
 /// own. A service account asks as the user `system:serviceaccount:NAMESPACE:NAME` (Using RBAC
 /// Authorization, "Referring to subjects"; members of a group: own). Neither the user's name nor
 /// the group's is empty.
-#[derive(Clone, Drop)]
+#[derive(Clone)]
 pub struct Principal {
     is_user: bool,
     key: Word,
     given: GivenGroups,
+}
+
+impl Drop for Principal {
+    fn drop(self) {
+        let Self {
+            is_user,
+            key,
+            given,
+        } = self;
+    }
 }
 
 impl Model for Principal {

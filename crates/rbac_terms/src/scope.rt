@@ -3,7 +3,6 @@
 use crate::text::Word;
 
 /// Where something is asked (own).
-#[derive(Drop)]
 pub enum Scope {
     /// Anywhere: wherever a binding may be live.
     Anywhere,
@@ -11,4 +10,14 @@ pub enum Scope {
     Namespace(Word),
     /// In the whole cluster at once, where ClusterRoleBindings alone are live.
     ClusterWide,
+}
+
+impl Drop for Scope {
+    fn drop(self) {
+        match self {
+            Self::Anywhere => {}
+            Self::Namespace(_) => {}
+            Self::ClusterWide => {}
+        }
+    }
 }

@@ -24,7 +24,6 @@ pub enum SelectOp {
 }
 
 /// What a selector asks of one key: an item of `matchExpressions` (Labels and Selectors).
-#[derive(Drop)]
 pub struct Requirement {
     /// The label's key.
     pub key: Word,
@@ -34,17 +33,31 @@ pub struct Requirement {
     pub values: Words,
 }
 
+impl Drop for Requirement {
+    fn drop(self) {
+        let Self { key, op, values } = self;
+    }
+}
+
 /// A list of requirements, all to be met: as many as fit in memory.
 pub type Requirements = Items<Requirement>;
 
 /// A label selector, which asks for everything that it lists; the empty one selects everything
 /// (Labels and Selectors).
-#[derive(Drop)]
 pub struct Selector {
     /// `matchLabels`: labels that an object must have.
     pub labels: Labels,
     /// `matchExpressions`: requirements that its labels must meet.
     pub requirements: Requirements,
+}
+
+impl Drop for Selector {
+    fn drop(self) {
+        let Self {
+            labels,
+            requirements,
+        } = self;
+    }
 }
 
 /// The selectors of an aggregated cluster role, which together select what any of them selects

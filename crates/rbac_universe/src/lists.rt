@@ -24,7 +24,7 @@ pub struct UniverseLists {
 pub type Principals = Items<Principal>;
 
 /// A resource as it is listed.
-#[derive(Clone, Drop)]
+#[derive(Clone)]
 pub struct ListedResource {
     /// The API group, empty for the core group.
     pub group: Word,
@@ -32,6 +32,16 @@ pub struct ListedResource {
     pub text: Word,
     /// Whether this entry says that its objects live in namespaces.
     pub namespaced: bool,
+}
+
+impl Drop for ListedResource {
+    fn drop(self) {
+        let Self {
+            group,
+            text,
+            namespaced,
+        } = self;
+    }
 }
 
 /// A list of resources.

@@ -17,13 +17,24 @@ use std::marker::Model;
 
 /// The requests that a matrix ranges over: principals, namespaces, verbs and targets, each a set in
 /// byte order (own).
-#[derive(Drop)]
 pub struct Universe {
     principals: Vec<Principal>,
     namespaces: Vec<Word>,
     verbs: Vec<Word>,
     targets: Vec<Target>,
     namespaced: Vec<bool>,
+}
+
+impl Drop for Universe {
+    fn drop(self) {
+        let Self {
+            principals,
+            namespaces,
+            verbs,
+            targets,
+            namespaced,
+        } = self;
+    }
 }
 
 impl Model for Universe {

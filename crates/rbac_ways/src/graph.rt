@@ -6,12 +6,17 @@ use std::marker::Model;
 /// A graph whose edges go through sets of nodes: an edge leads from each node that takes a set to
 /// each node of the set. So a large set that many nodes take is written once. Nodes and sets are
 /// numbered from 0; a number past the last one stands for nothing (own).
-#[derive(Drop)]
 pub struct Graph {
     /// The sets that each node takes.
     pub takes: Vec<Items<usize>>,
     /// The nodes of each set.
     pub sets: Vec<Items<usize>>,
+}
+
+impl Drop for Graph {
+    fn drop(self) {
+        let Self { takes, sets } = self;
+    }
 }
 
 impl Model for Graph {
@@ -32,11 +37,16 @@ pub struct Stop {
 }
 
 /// The nodes that ways lead to.
-#[derive(Drop)]
 pub struct Reached {
     /// For each node of the graph, where it is on a shortest way, if a way leads there.
     pub stops: Vec<Option<Stop>>,
     /// The nodes that ways lead to, in order of how many edges lead there, and then of their
     /// numbers.
     pub order: Vec<usize>,
+}
+
+impl Drop for Reached {
+    fn drop(self) {
+        let Self { stops, order } = self;
+    }
 }
