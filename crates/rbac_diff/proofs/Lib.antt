@@ -9,6 +9,7 @@ pub mod CoveringRules
 pub mod Deciding
 pub mod Exchanging
 pub mod FirstWith
+pub mod Flagging
 pub mod Gained
 pub mod Gathering
 pub mod Grants

@@ -9,4 +9,4 @@ returns-then-same_rule c = λ t. subst (λ (r : Rule). CoversAll c.args.rule.now
 
 pub returns : goal.returns
 unfolding CoversAll
-returns c = λ t. subst (λ (r : Rule). CoversAll r c.args.other.now) c.in_ok-new.ensures (c.covers-2.ensures.all.0 t)
+returns c = λ t. subst (λ (r : Rule). CoversAll r c.args.other.now) c.in_ok-new.ensures (c.covers.ensures.all.0 t)

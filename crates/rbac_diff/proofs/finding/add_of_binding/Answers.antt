@@ -9,7 +9,7 @@ use Rattle.rbac_diff.specs.Finding.{Finds, IsGainedAt}
 use Rattle.rbac_diff.proofs.Bindings.{IsByPrincipal, IsBySubjects, subjects_none, subjects_nobody, subjects_more, gained_by_subjects}
 use Rattle.rbac_diff.proofs.Searching.{finds_same}
 use Rattle.rbac_diff.proofs.finding.add_of_binding.Goals as goal
-use Rattle.rbac_diff.proofs.finding.add_of_binding.Goals.{in-Some+in_ok-add_of_principal+in-Some-1, in-Some+in_ok-add_of_principal+in-None-1, in_default}
+use Rattle.rbac_diff.proofs.finding.add_of_binding.Goals.{in-Some+in_ok-add_of_principal, in_default}
 
 pub loop-subject-init : goal.loop-subject-init
 loop-subject-init c = subjects_none c.args.asked.now c.args.after.now c.args.place (option_copied c.as_ref-namespace.result) c.args.origin.now c.args.findings.now
@@ -27,11 +27,7 @@ loop-subject-preserved c =
     let named : option_copied c.as_ref-namespace.result ≡ x.binding.namespace = c.as_ref-namespace.ensures.value ∙ ap (λ (b : Binding). b.namespace) c.binding-binding.ensures in
     let more : take (i + 1) items ≡ take i items ++ s ∷ [] = take_read items i s c.loop-subject-test.true c.subject-item.is in
     rw more (elim c.match-branch-2.branch [
-      | in-Some+in_ok-add_of_principal+in-Some-1 w ↦ (let who = w.in-Some.principal in
-          let found : Finds (IsByPrincipal before after c.args.place own x who) x c.loop-subject.findings w.add_of_principal.new.findings =
-          subst (λ (o : Option Text). Finds (IsByPrincipal before after c.args.place o x who) x c.loop-subject.findings w.add_of_principal.new.findings) (sym named) w.in_ok-add_of_principal.ensures in
-          rw w.findings-is (subjects_more before after c.args.place own x s done who c.args.findings.now c.loop-subject.findings w.add_of_principal.new.findings (sym c.in_ok-principal.ensures ∙ w.in-Some.is) c.loop-subject.invariant found))
-      | in-Some+in_ok-add_of_principal+in-None-1 w ↦ (let who = w.in-Some.principal in
+      | in-Some+in_ok-add_of_principal w ↦ (let who = w.in-Some.principal in
           let found : Finds (IsByPrincipal before after c.args.place own x who) x c.loop-subject.findings w.add_of_principal.new.findings =
           subst (λ (o : Option Text). Finds (IsByPrincipal before after c.args.place o x who) x c.loop-subject.findings w.add_of_principal.new.findings) (sym named) w.in_ok-add_of_principal.ensures in
           rw w.findings-is (subjects_more before after c.args.place own x s done who c.args.findings.now c.loop-subject.findings w.add_of_principal.new.findings (sym c.in_ok-principal.ensures ∙ w.in-Some.is) c.loop-subject.invariant found))
