@@ -54,11 +54,15 @@ grants_too own other place at b h mine theirs namespace among rules number g rea
       r.4,
     )
 
--- subjects found one after the other among others
-pub among_more : (xs ys : List Subject) (i at : ℕ) (x y : Subject) → i < length xs → x ≡ get_or xs i x → AreAmong (take i xs) ys → slice_get ys at ≡ Some y → y ≡ x → AreAmong (take (i + 1) xs) ys
-among_more xs ys i at x y low is before there same =
+-- subjects that stand among others, and one more that does
+pub held_more : (xs ys : List Subject) (i : ℕ) (x : Subject) → i < length xs → x ≡ get_or xs i x → AreAmong (take i xs) ys → Contains ys x → AreAmong (take (i + 1) xs) ys
+held_more xs ys i x low is before there =
     subst (λ (zs : List Subject). AreAmong zs ys) (sym (take_read xs i x low is))
     (λ s h. elim (Contains-push_cases (take i xs) x s h) [
       | inl early ↦ before s early
-      | inr e ↦ subst (λ (z : Subject). Contains ys z) (same ∙ e) (contains_read ys at y there)
+      | inr e ↦ subst (λ (z : Subject). Contains ys z) e there
     ])
+
+-- subjects found one after the other among others
+pub among_more : (xs ys : List Subject) (i at : ℕ) (x y : Subject) → i < length xs → x ≡ get_or xs i x → AreAmong (take i xs) ys → slice_get ys at ≡ Some y → y ≡ x → AreAmong (take (i + 1) xs) ys
+among_more xs ys i at x y low is before there same = held_more xs ys i x low is before (subst (λ (z : Subject). Contains ys z) same (contains_read ys at y there))

@@ -1,16 +1,19 @@
 -- roles that cover each other, and the rules of their grants
-use Rattle.std.proofs.Common.{◌≡◌, ℕ, List, ap, refl, slice_get}
-use Rattle.std.specs.Prelude.{Option, Some, None, option_and_then}
+use Rattle.std.proofs.Common.{◌≡◌, ◌<◌, ◌+◌, ◌⊎◌, inl, inr, ℕ, List, [], ◌∷◌, ◌++◌, length, get_or, arith, sym, ◌∙◌, subst, ap, refl, slice_get}
+use Rattle.std.specs.Prelude.{Option, Some, None, IfSome, option_and_then}
 use Rattle.std.specs.Option.{option_map}
-use Rattle.std.proofs.lemmas.Option.{same_Some}
+use Rattle.std.proofs.lemmas.Bool.{cases_lt}
+use Rattle.std.proofs.lemmas.List.{length-append}
+use Rattle.std.proofs.lemmas.Option.{same_Some, slice_get_within, slice_get-get_or}
 use Rattle.rbac_terms.specs.declared.granting.Binding.{Binding}
 use Rattle.rbac_terms.specs.declared.matching.Rule.{Rule}
+use Rattle.rbac_terms.proofs.Reading.{read_left, read_right}
 use Rattle.rbac_model.specs.Policies.{GrantView, Held, InClusterRole, InRole, Source, SourcedRule, grant_at, rule_at, sourced_at}
 use Rattle.rbac_model.specs.declared.places.GrantPlace.{GrantPlace}
 use Rattle.rbac_model.specs.declared.places.RolePlace.{RolePlace}
 use Rattle.rbac_model.specs.declared.places.RolePlace.TheVariants.{ClusterRoleAt, RoleAt}
 use Rattle.rbac_covering.specs.Covering.{CoversAll}
-use Rattle.rbac_diff.specs.CoveredRoles.{AreCoveredAt, AreCoveredRoles, HasPair}
+use Rattle.rbac_diff.specs.CoveredRoles.{AreCoveredAt, AreCoveredRoles, HasPair, IsCoveredAt}
 use Rattle.rbac_diff.specs.declared.covered_roles.CoveredRoles.{CoveredRoles}
 
 -- a grant's rule stands in the role at its place
@@ -54,3 +57,20 @@ module _ (own other : Held) (covered : CoveredRoles) (are : AreCoveredRoles own 
       let mine = rule_of_parts (slice_get own.bindings a.binding) (sourced_at own a.role a.rule) g e in
       let theirs : sourced_at other b.role a.rule ≡ Some h.rule = rw same (rule_of_parts (slice_get other.bindings b.binding) (sourced_at other b.role b.rule) h f) in
       by_roles a.role b.role a.rule g.rule h.rule pair mine theirs
+
+-- the place of one more role, if another one's rules cover its own
+pub places_more : {T : Type 0} (rules : T → List Rule) (roles others : List T) (places : List (Option ℕ)) (place : Option ℕ) (i : ℕ) (role : T) → i < length roles → role ≡ get_or roles i role → (length places ≡ i) × AreCoveredAt rules roles places others → IfSome place (IsCoveredAt rules role others)
+    → (length (places ++ place ∷ []) ≡ i + 1) × AreCoveredAt rules roles (places ++ place ∷ []) others
+places_more {T} rules roles others places place i role lt is before last = (
+  omega (arith, length-append places (place ∷ [])),
+  λ k at r e f. elim (cases_lt k (length places)) [
+    | inl less ↦ before.1 k at r (sym (read_left places (place ∷ []) k less) ∙ e) f
+    | inr le ↦
+        let within : k < length (places ++ place ∷ []) = slice_get_within (places ++ place ∷ []) k (Some at) e in
+        let here : k ≡ length places = omega (arith, length-append places (place ∷ [])) in
+        let there : place ≡ Some at = same_Some place (Some at) (sym (read_right places (place ∷ []) k 0 (omega arith)) ∙ e) in
+        let read : slice_get roles k ≡ Some role = rw (here, before.0) (slice_get-get_or roles i role lt ∙ ap (λ (x : T). Some x) (sym is)) in
+        let same : role ≡ r = same_Some role r (sym read ∙ f) in
+        subst (λ (x : T). IsCoveredAt rules x others at) same (subst (λ (o : Option ℕ). IfSome o (IsCoveredAt rules role others)) there last)
+  ],
+)
