@@ -91,13 +91,21 @@ pub(crate) fn object_word(
         ≡ kind.now ++ slash ∷ scope_text (option_map (λ n. n.now) namespace.entry) ++ name.now) }
 {
     let mut text = Word::from_slice(alloc, kind)?;
+    add_name(&mut text, namespace, name)?;
+    Ok(text)
+}
+
+// Adds the namespace, if there is one, and the name, each behind a slash.
+fn add_name(text: &mut Word, namespace: Option<&[u8]>, name: &Word) -> Result<(), AllocError>
+    ensures { OnOk result (text.new
+        ≡ text.old ++ slash ∷ scope_text (option_map (λ n. n.now) namespace.entry) ++ name.now) }
+{
     text.push(b'/')?;
     if let Some(namespace) = namespace {
         text.push_slice(namespace)?;
         text.push(b'/')?;
     }
-    text.push_slice(name.as_bytes())?;
-    Ok(text)
+    text.push_slice(name.as_bytes())
 }
 
 fn role_name_word(alloc: Global, namespace: &[u8], name: &Word) -> Result<Word, AllocError>
