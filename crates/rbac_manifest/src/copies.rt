@@ -1,11 +1,11 @@
 //! Copies of objects, part by part. The types that they are made of have no `Clone`, since nothing
 //! else copies whole objects.
 
-ghost use Rattle.std.specs.Prelude.{◌≡◌, IfOk};
+ghost use Rattle.std.specs.Prelude.{◌≡◌, ◌++◌, ◌∷◌, [], IfOk, OnOk};
 
 use rbac_model::Object;
 use rbac_terms::{
-    Binding, ClusterRole, Items, Requirement, Role, RoleRef, Rule, Selector, Subject,
+    Binding, ClusterRole, Items, Requirement, Role, RoleRef, Rule, Selector, Subject, Words,
 };
 use std::alloc::{AllocError, Global};
 
@@ -20,10 +20,22 @@ impl<T: Copyable + Drop> Copyable for Items<T> {
     fn copy(&self, alloc: Global) -> Result<Self, AllocError> {
         let mut copies = Items::new(alloc);
         for item in self.as_slice() {
-            copies.push(item.copy(alloc)?)?;
+            push_copy(alloc, item, &mut copies)?;
         }
         Ok(copies)
     }
+}
+
+// Adds a copy of an item at the end.
+fn push_copy<T: Copyable + Drop>(
+    alloc: Global,
+    item: &T,
+    copies: &mut Items<T>,
+) -> Result<(), AllocError>
+    ensures { OnOk result (copies.new ≡ copies.old ++ item.now ∷ []) }
+{
+    copies.push(item.copy(alloc)?)?;
+    Ok(())
 }
 
 impl<T: Copyable> Copyable for Option<T> {
@@ -36,15 +48,36 @@ impl<T: Copyable> Copyable for Option<T> {
 }
 
 impl Copyable for Rule {
-    fn copy(&self, _: Global) -> Result<Self, AllocError> {
-        Ok(Rule {
-            verbs: self.verbs.clone()?,
-            groups: self.groups.clone()?,
-            resources: self.resources.clone()?,
-            resource_names: self.resource_names.clone()?,
-            urls: self.urls.clone()?,
-        })
+    fn copy(&self, alloc: Global) -> Result<Self, AllocError> {
+        let mut copy = Rule {
+            verbs: Words::new(alloc),
+            groups: Words::new(alloc),
+            resources: Words::new(alloc),
+            resource_names: Words::new(alloc),
+            urls: Words::new(alloc),
+        };
+        copy_rule(self, &mut copy)?;
+        Ok(copy)
     }
+}
+
+// Makes `copy` equal to a rule. What can fail is here, where no early return has anything to drop.
+fn copy_rule(rule: &Rule, copy: &mut Rule) -> Result<(), AllocError>
+    ensures { OnOk result (copy.new ≡ rule.now) }
+{
+    copy_words(&rule.verbs, &mut copy.verbs)?;
+    copy_words(&rule.groups, &mut copy.groups)?;
+    copy_words(&rule.resources, &mut copy.resources)?;
+    copy_words(&rule.resource_names, &mut copy.resource_names)?;
+    copy_words(&rule.urls, &mut copy.urls)
+}
+
+// Makes `copy` equal to these words.
+fn copy_words(words: &Words, copy: &mut Words) -> Result<(), AllocError>
+    ensures { OnOk result (copy.new ≡ words.now) }
+{
+    *copy = words.clone()?;
+    Ok(())
 }
 
 impl Copyable for Requirement {
