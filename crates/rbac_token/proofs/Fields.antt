@@ -18,13 +18,13 @@ use Rattle.rbac_token.specs.Token.{after_tab}
 use Rattle.rbac_token.specs.declared.mark.BindingName.{BindingName}
 
 -- a text more is read
-pub one_more : (fields : List (Bor (List ℕ))) (texts : List Text) (i : ℕ) (d : Bor (List ℕ)) (read : Text) → map (λ f. f.now) fields ≡ map field_text texts
-    → i < length fields → ((t : Text) → (get_or fields i d).now ≡ field_text t → read ≡ t) → take i texts ++ read ∷ [] ≡ take (i + 1) texts
-one_more fields texts i d read same within reads =
+pub one_more : (fields : List (Bor (List ℕ))) (texts : List Text) (i : ℕ) (d : Bor (List ℕ)) (before after : List Text) → map (λ f. f.now) fields ≡ map field_text texts
+    → i < length fields → ((t : Text) → (get_or fields i d).now ≡ field_text t → after ≡ before ++ t ∷ []) → before ≡ take i texts → after ≡ take (i + 1) texts
+one_more fields texts i d before after same within reads so_far =
     let long : length fields ≡ length texts = sym (length-map fields (λ f. f.now)) ∙ ap length same ∙ length-map texts field_text in
     let shown : (get_or fields i d).now ≡ field_text (get_or texts i []) =
     sym (get_or-map (λ f. f.now) fields i d [] within) ∙ ap (λ l. get_or l i []) same ∙ get_or-map field_text texts i [] [] (omega (arith, long, within)) in
-    ap (λ t. take i texts ++ t ∷ []) (reads (get_or texts i []) shown) ∙ sym (take_more texts i [] (omega (arith, long, within)))
+    reads (get_or texts i []) shown ∙ ap (λ l. l ++ get_or texts i [] ∷ []) so_far ∙ sym (take_more texts i [] (omega (arith, long, within)))
 
 -- a field more is printed, after its tab
 pub fields_more : (base printed put : Text) (ts : List Text) (i : ℕ) (t : Text) → printed ≡ base ++ flat_map after_tab (take i ts)

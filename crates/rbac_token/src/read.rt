@@ -1,7 +1,7 @@
 //! Marks read back from their printed fields.
 
 ghost use Rattle.std.specs.Prelude.{◌≡◌, ◌==◌, List, [], ◌∷◌, ◌++◌, Option, Some, map, IfOk, IfErr};
-ghost use Rattle.std.specs.Prelude.{IsSomeAnd, MatchResult};
+ghost use Rattle.std.specs.Prelude.{IsSomeAnd, MatchResult, OnOk};
 ghost use Rattle.std.specs.List.{slice_split};
 ghost use Rattle.rbac_terms.specs.Text.{Text};
 ghost use Rattle.rbac_terms.specs.Keys.{KeyTexts, texts as texts_of};
@@ -10,7 +10,7 @@ ghost use Rattle.rbac_terms.specs.Targets.{What, IsProper, group_of, text_of, na
 ghost use Rattle.rbac_text.specs.Field.{field_text};
 ghost use Rattle.rbac_text.specs.Row.{tab};
 ghost use Rattle.rbac_token.specs.Faults.{RefusesIf, IsReadFault};
-ghost use Rattle.rbac_token.specs.Marks.{name_texts, printed_mark};
+ghost use Rattle.rbac_token.specs.Marks.{name_texts, printed_mark, version_of};
 ghost use Rattle.rbac_token.specs.Token.{IsKey, IsWhoKey, HasName};
 ghost use Rattle.rbac_token.specs.declared.mark.BindingName.{BindingName};
 ghost use Rattle.rbac_token.specs.declared.mark.Mark.{Mark};
@@ -31,7 +31,18 @@ pub(crate) fn read_mark(alloc: Global, bytes: &[u8]) -> Result<Mark, TokenFault>
     ensures refused { IfErr result IsReadFault }
 {
     let texts = texts_of(alloc, bytes)?;
-    let Some((key, binding)) = after_version(texts.as_slice()) else {
+    mark_of_texts(alloc, texts.as_slice())
+}
+
+// The mark of these texts: a version, the texts of a key, and those of a binding's name.
+fn mark_of_texts(alloc: Global, texts: &[Word]) -> Result<Mark, TokenFault>
+    ensures whole { (m : Mark) → IsKey m.key
+        → texts.now ≡ version_of m.binding ∷ texts_of m.key ++ name_texts m.binding
+        → MatchResult result (λ read. read ≡ m) (λ e. e ≡ TokenFault.NoMemory) }
+    ensures key { IfOk result (λ read. IsKey read.key) }
+    ensures refused { IfErr result IsReadFault }
+{
+    let Some((key, binding)) = after_version(texts) else {
         return Err(TokenFault::NotCanonical);
     };
     let binding = binding_of_texts(binding)?;
@@ -123,9 +134,18 @@ fn texts_of(alloc: Global, bytes: &[u8]) -> Result<Vec<Word>, AllocError>
 {
     let mut texts = Vec::new(alloc);
     for field in fields_of(alloc, bytes)?.as_slice() {
-        texts.push(read_field(alloc, field)?)?;
+        push_text(alloc, field, &mut texts)?;
     }
     Ok(texts)
+}
+
+// Adds the text whose field this is.
+fn push_text(alloc: Global, field: &[u8], texts: &mut Vec<Word>) -> Result<(), AllocError>
+    ensures { (text : Text) → field.now ≡ field_text text
+        → OnOk result (texts.new.items ≡ texts.old.items ++ text ∷ []) }
+{
+    texts.push(read_field(alloc, field)?)?;
+    Ok(())
 }
 
 // What is between the tabs.
