@@ -50,11 +50,20 @@ impl ObjectKind {
 }
 
 // The kind, namespace and name of an object, borrowed from it.
-#[derive(Drop)]
 pub(crate) struct ObjectName<'a> {
     pub kind: ObjectKind,
     pub namespace: &'a [u8],
     pub name: &'a [u8],
+}
+
+impl Drop for ObjectName<'_> {
+    fn drop(self) {
+        let Self {
+            kind,
+            namespace,
+            name,
+        } = self;
+    }
 }
 
 impl<'a> Model for ObjectName<'a> {
