@@ -1,11 +1,11 @@
 -- Texts read from their fields, one by one.
-use Rattle.std.proofs.Common.{◌≡◌, ◌≢◌, ℕ, ◌+◌, ◌<◌, [], ◌∷◌, ◌++◌, sym, ap, ◌∙◌, refl, subst, arith, false, Bor, List, length, map, take, get_or, All, codes}
+use Rattle.std.proofs.Common.{◌≡◌, ◌≢◌, ℕ, ◌+◌, ◌<◌, ◌≤◌, [], ◌∷◌, ◌++◌, sym, ap, ◌∙◌, refl, subst, arith, false, Bor, List, length, map, take, get_or, All, codes}
 use Rattle.std.specs.Prelude.{◌==◌, Option, Some, None, slice_get}
 use Rattle.std.specs.List.{flat_map, slice_split}
 use Rattle.std.proofs.lemmas.Bool.{ne_eqb}
 use Rattle.std.proofs.lemmas.Grind.{flat_map-append}
 use Rattle.std.proofs.lemmas.Option.{slice_get_within, get_or_from_slice_get}
-use Rattle.std.proofs.lemmas.List.{append-nil, append_assoc, get_or-map, length-map, take_more}
+use Rattle.std.proofs.lemmas.List.{append-nil, append_assoc, get_or-map, length-map, take_more, take_all}
 use Rattle.std.proofs.lemmas.List.Elements.{All-weaker}
 use Rattle.std.proofs.lemmas.List.Splits.{slice_split_none, slice_split_at}
 use Rattle.rbac_terms.specs.Text.{Text}
@@ -25,6 +25,13 @@ one_more fields texts i d before after same within reads so_far =
     let shown : (get_or fields i d).now ≡ field_text (get_or texts i []) =
     sym (get_or-map (λ f. f.now) fields i d [] within) ∙ ap (λ l. get_or l i []) same ∙ get_or-map field_text texts i [] [] (omega (arith, long, within)) in
     reads (get_or texts i []) shown ∙ ap (λ l. l ++ get_or texts i [] ∷ []) so_far ∙ sym (take_more texts i [] (omega (arith, long, within)))
+
+-- all texts are read
+pub all_read : (fields : List (Bor (List ℕ))) (texts : List Text) (i : ℕ) (read : List Text) → map (λ f. f.now) fields ≡ map field_text texts
+    → length fields ≤ i → read ≡ take i texts → read ≡ texts
+all_read fields texts i read same over so_far =
+    let long : length fields ≡ length texts = sym (length-map fields (λ f. f.now)) ∙ ap length same ∙ length-map texts field_text in
+    so_far ∙ take_all i texts (omega (arith, long, over))
 
 -- a field more is printed, after its tab
 pub fields_more : (base printed put : Text) (ts : List Text) (i : ℕ) (t : Text) → printed ≡ base ++ flat_map after_tab (take i ts)
