@@ -1,5 +1,5 @@
 -- targets of one group and resource text stand together
-use Rattle.std.proofs.Common.{◌≡◌, ℕ, ◌-◌, ◌<◌, ◌≤◌, List, [], ◌∷◌, length, get_or, slice_get, map, ap, sym, ◌∙◌, refl, subst, arith, inl, inr, true, false, ◌↔◌, Any, Contains, drop, ◌++◌, Bor}
+use Rattle.std.proofs.Common.{◌≡◌, ℕ, ◌-◌, ◌<◌, ◌≤◌, List, [], ◌∷◌, length, get_or, slice_get, map, ap, sym, ◌∙◌, refl, subst, arith, inl, inr, true, false, ◌↔◌, Any, Contains, drop, ◌++◌, ◌+◌, Bor, add-one, drop-cons}
 use Rattle.std.specs.Prelude.{Option, Some, None, IfSome, option_copied}
 use Rattle.std.specs.Slice.{IsItemAt}
 use Rattle.std.specs.Ordering.{ordering_index, ordering_then, ordering_reverse, is_le}
@@ -177,6 +177,13 @@ module _ (r : Rule) (ts : List What) (start end : ℕ) (t : What) (there : slice
 pub stems_push : (ts : List What) (from at end : ℕ) (ends : List ℕ) → AreStemEnds ts from at ends → AreOneStem ts at end → AreStemEnds ts from end (ends ++ end ∷ [])
 stems_push ts from at end [] are is = (subst (λ (n : ℕ). AreOneStem ts n end) (sym are) is, refl)
 stems_push ts from at end (e ∷ ends) are is = (are.0, stems_push ts e at end ends are.1 is)
+
+drop_next : (xs : List ℕ) (i : ℕ) → i < length xs → drop i xs ≡ get_or xs i 0 ∷ drop (i + 1) xs
+drop_next xs i lt = rw (add-one, drop-cons xs i 0)
+
+-- the next of the stems, and those after it
+pub stems_next : (ts : List What) (from to i : ℕ) (ends : List ℕ) → i < length ends → AreStemEnds ts from to (drop i ends) → AreOneStem ts from (get_or ends i 0) × AreStemEnds ts (get_or ends i 0) to (drop (i + 1) ends)
+stems_next ts from to i ends lt are = subst (AreStemEnds ts from to) (drop_next ends i lt) are
 
 pub stems_end : (ts : List What) (from to i : ℕ) (ends : List ℕ) → length ends ≤ i → AreStemEnds ts from to (drop i ends) → from ≡ to
 stems_end ts from to i ends le are = subst (AreStemEnds ts from to) (drop_all i ends le) are

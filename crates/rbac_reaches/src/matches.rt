@@ -28,11 +28,26 @@ pub(crate) fn matched(
     ensures { IfOk result (λ s. IsReach rule.now targets.now s) }
 {
     let rule = OrderedRule::new(alloc, rule)?;
+    places_by_stem(alloc, &rule, targets, ends)
+}
+
+// The same, stem by stem, with a rule whose words are looked up.
+fn places_by_stem(
+    alloc: Global,
+    rule: &OrderedRule<'_>,
+    targets: &[Target],
+    ends: &[u32],
+) -> Result<Spans, AllocError>
+    requires few { length targets.now ≤ most_targets }
+    requires ordered { IsAscendingBy what_texts targets.now }
+    requires ends { AreStemEnds targets.now 0 (length targets.now) ends.now }
+    ensures { IfOk result (λ s. IsReach rule.now targets.now s) }
+{
     let mut spans = Spans::new(alloc);
     let mut start = 0;
     for stem_end in ends {
         let end = *stem_end as usize;
-        push_stem(&mut spans, &rule, targets, start, end)?;
+        push_stem(&mut spans, rule, targets, start, end)?;
         start = end;
     }
     Ok(spans)

@@ -19,12 +19,12 @@ use std::marker::Model;
 #[derive(Drop)]
 pub(crate) struct OrderedRule<'a> {
     rule: &'a Rule,
+    names: Vec<Word>,
+    subresources: Vec<Word>,
+    url_prefixes: Vec<Word>,
     groups: WordLookup<'a>,
     resources: WordLookup<'a>,
-    subresources: Vec<Word>,
-    names: Vec<Word>,
     urls: WordLookup<'a>,
-    url_prefixes: Vec<Word>,
 }
 
 impl<'a> Model for OrderedRule<'a> {
@@ -49,12 +49,12 @@ impl<'a> OrderedRule<'a> {
     {
         Ok(OrderedRule {
             rule,
+            names: sorted_copy(&rule.resource_names)?,
+            subresources: subresources_of(alloc, rule.resources.as_slice())?,
+            url_prefixes: url_prefixes_of(alloc, rule.urls.as_slice())?,
             groups: WordLookup::new(&rule.groups)?,
             resources: WordLookup::new(&rule.resources)?,
-            subresources: subresources_of(alloc, rule.resources.as_slice())?,
-            names: sorted_copy(&rule.resource_names)?,
             urls: WordLookup::new(&rule.urls)?,
-            url_prefixes: url_prefixes_of(alloc, rule.urls.as_slice())?,
         })
     }
 
