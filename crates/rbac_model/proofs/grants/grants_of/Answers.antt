@@ -49,4 +49,4 @@ put_binding-requires-clause-at c =
 
 pub returns-clause-are : goal.returns-clause-are
 returns-clause-are c =
-    rw c.bindings-bindings.ensures.bindings at (rw (take_all c.loop-at.at c.bindings-bindings.result.now c.loop-at-test.false) at c.loop-at.invariant.are)
+    rw c.bindings-bindings.ensures.bindings at (rw (take_all c.loop-at.at c.bindings-bindings.result.now (omega arith)) at c.loop-at.invariant.are)
