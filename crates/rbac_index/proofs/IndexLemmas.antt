@@ -1,5 +1,5 @@
 -- the grants by the rules that are listed under matching words and allow are the candidates
-use Rattle.std.proofs.Common.{◌≡◌, ◌≢◌, ℕ, ◌<◌, ◌+◌, ◌^◌, List, [], ◌∷◌, ◌++◌, map, length, take, get_or, ap, sym, refl, ◌∙◌, subst, All, Any, Contains, ◌↔◌, inl, inr, arith, slice_get}
+use Rattle.std.proofs.Common.{◌≡◌, ◌≢◌, ℕ, ◌<◌, ◌+◌, ◌^◌, List, [], ◌∷◌, ◌++◌, map, length, take, get_or, ap, sym, refl, ◌∙◌, subst, All, Any, Contains, ◌↔◌, inl, inr, arith, slice_get, Result, Ok, Err, IfOk}
 use Rattle.std.specs.Prelude.{Some}
 use Rattle.std.specs.List.Sorted.{IsStrictlyIncreasing}
 use Rattle.std.proofs.Math.ListN.{get_or-map}
@@ -111,8 +111,12 @@ module _ (p : PolicyView) (ws : List Written) (l : RuleLists) (starts : List (Li
         let some : allows.0.urls ≢ [] = λ e. omega (arith, by.1.2, ap length e) in
         (index.listed.urls at).1 (within t at allows, (allows.0, allows.1, some))
 
-    pub candidates_urls : (t : RequestedView) (ns : List ℕ) → IsUrl (target_given t) → IsStrictlyIncreasing ns → ((n : ℕ) → Contains ns n ↔ IsAllowedBy ws starts l.with_urls verb t n) → AreCandidates p verb t ns
+    candidates_urls : (t : RequestedView) (ns : List ℕ) → IsUrl (target_given t) → IsStrictlyIncreasing ns → ((n : ℕ) → Contains ns n ↔ IsAllowedBy ws starts l.with_urls verb t n) → AreCandidates p verb t ns
     candidates_urls t ns is up exact = candidates_by t l.with_urls ns (url_listed t is) up exact
+
+    pub urls_asked : {E : Type 0} (t : RequestedView) (r : Result (List ℕ) E) → IsUrl (target_given t) → IfOk r IsStrictlyIncreasing → IfOk r (λ ns. (n : ℕ) → Contains ns n ↔ IsAllowedBy ws starts l.with_urls verb t n) → IfOk r (AreCandidates p verb t)
+    urls_asked t (Ok ns) is up exact = candidates_urls t ns is up exact
+    urls_asked t (Err e) is up exact = tt
 
     -- a rule that allows a resource that is requested allows it with some object name
     resource_requested : (r : Rule) (t : RequestedView) → IsResource (target_given t) → AllowsRequested r verb t → (name : Text) × RuleAllows r verb (Resource (group_of (target_given t)) (text_of (target_given t)) name)
@@ -124,8 +128,12 @@ module _ (p : PolicyView) (ws : List Written) (l : RuleLists) (starts : List (Li
         let word = (resource_requested allows.0 t is allows.2).1.1.1 in
         (are at).1 (word.1, word.4, (index.listed.words word.1 at).1 (within t at allows, (allows.0, allows.1, (word.0, word.2, word.3))))
 
-    pub candidates_listed : (t : RequestedView) (found ns : List ℕ) → IsResource (target_given t) → ((n : ℕ) → Contains found n ↔ ((w : Text) × ResourceWordMatches w (text_of (target_given t)) × Contains (listed l.by_word w) n)) → IsStrictlyIncreasing ns → ((n : ℕ) → Contains ns n ↔ IsAllowedBy ws starts found verb t n) → AreCandidates p verb t ns
+    candidates_listed : (t : RequestedView) (found ns : List ℕ) → IsResource (target_given t) → ((n : ℕ) → Contains found n ↔ ((w : Text) × ResourceWordMatches w (text_of (target_given t)) × Contains (listed l.by_word w) n)) → IsStrictlyIncreasing ns → ((n : ℕ) → Contains ns n ↔ IsAllowedBy ws starts found verb t n) → AreCandidates p verb t ns
     candidates_listed t found ns is are up exact = candidates_by t found ns (resource_listed t found is are) up exact
+
+    pub listed_asked : {E : Type 0} (t : RequestedView) (found : List ℕ) (r : Result (List ℕ) E) → IsResource (target_given t) → ((n : ℕ) → Contains found n ↔ ((w : Text) × ResourceWordMatches w (text_of (target_given t)) × Contains (listed l.by_word w) n)) → IfOk r IsStrictlyIncreasing → IfOk r (λ ns. (n : ℕ) → Contains ns n ↔ IsAllowedBy ws starts found verb t n) → IfOk r (AreCandidates p verb t)
+    listed_asked t found (Ok ns) is are up exact = candidates_listed t found ns is are up exact
+    listed_asked t found (Err e) is are up exact = tt
 
 -- one place more of a rule, which allows or doesn't
 module _ (ws : List Written) (starts : List (List ℕ)) (places : List ℕ) (verb : Text) (t : RequestedView) (i : ℕ) (lt : i < length places) (lists : List (List ℕ)) (n : ℕ) (w : Written) (at : slice_get ws (get_or places i 0) ≡ Some w)

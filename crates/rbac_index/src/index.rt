@@ -1,12 +1,13 @@
 //! The index of a policy.
 
 ghost use Rattle.std.specs.Prelude.{◌≡◌, ◌<◌, ◌↔◌, ℕ, length, slice_get, Some, All};
-ghost use Rattle.std.specs.Prelude.{Any, Contains, IfOk, IfSome, MatchOption};
+ghost use Rattle.std.specs.Prelude.{Any, Contains, IfOk, IfSome, MatchOption, OnOk, ◌++◌, ◌∷◌, []};
 ghost use Rattle.std.specs.List.Sorted.{IsStrictlyIncreasing};
 ghost use Rattle.rbac_model.specs.Sources.{grant_of};
 ghost use Rattle.rbac_model.specs.Policies.{Allows, IsFirst, IsOfBinding};
 ghost use Rattle.rbac_model.specs.Holders.{AreHolders};
 ghost use Rattle.rbac_index.specs.Indexed.{AreCandidates, HaveNumbers, IsAllowedBy, AreAlike};
+ghost use Rattle.rbac_index.specs.Indexed.{numbers_by};
 ghost use Rattle.rbac_index.specs.Deciding.{IsWhyShown};
 ghost use Rattle.rbac_index.specs.HolderViews.{requested_of};
 ghost use Rattle.rbac_index.specs.Holding.{AllowsByHolders};
@@ -131,7 +132,7 @@ impl<'p> Index<'p> {
     ) -> Result<GrantNos, IndexFault>
         ensures { IfOk result (λ ns. AreCandidates self.now verb.now (ThisTarget target.now) ns) }
     {
-        self.candidates_for(alloc, verb, Requested::ThisTarget(target))
+        Ok(self.candidates_for(alloc, verb, Requested::ThisTarget(target))?)
     }
 
     // The numbers, ascending, of the grants whose rule allows the verb on what is requested.
@@ -140,7 +141,7 @@ impl<'p> Index<'p> {
         alloc: Global,
         verb: &Word,
         requested: Requested<'_>,
-    ) -> Result<GrantNos, IndexFault>
+    ) -> Result<GrantNos, AllocError>
         ensures { IfOk result
             (λ ns. AreCandidates self.now verb.now (requested_of requested.entry) ns) }
     {
@@ -149,10 +150,10 @@ impl<'p> Index<'p> {
         let target = requested.target();
         if target.is_url() {
             let places = self.listed.lists.with_urls.as_slice();
-            Ok(allowed_by(alloc, rules, starts, places, verb, requested)?)
+            allowed_by(alloc, rules, starts, places, verb, requested)
         } else {
             let places = matching(alloc, &self.listed.lists.by_word, target.text())?;
-            Ok(allowed_by(alloc, rules, starts, places.as_slice(), verb, requested)?)
+            allowed_by(alloc, rules, starts, places.as_slice(), verb, requested)
         }
     }
 
@@ -259,11 +260,26 @@ fn allowing<'a>(
     for at in places {
         let written = rules[*at];
         if allows_requested(written.rule, verb, requested) {
-            lists.push(Numbers {
-                starts: starts[written.row].as_slice(),
-                place: written.place,
-            })?;
+            push_numbers(starts, written, &mut lists)?;
         }
     }
     Ok(lists)
+}
+
+// Adds the numbers of the grants by this rule.
+fn push_numbers<'a>(
+    starts: &'a [GrantNos],
+    written: Written<'_>,
+    lists: &mut Vec<Numbers<'a>>,
+) -> Result<(), AllocError>
+    requires { HaveNumbers starts.now written }
+    ensures ascending { OnOk result (IsStrictlyIncreasing (numbers_by starts.now written.entry)) }
+    ensures added { OnOk result
+        (lists.new.items ≡ lists.old.items ++ numbers_by starts.now written.entry ∷ []) }
+{
+    lists.push(Numbers {
+        starts: starts[written.row].as_slice(),
+        place: written.place,
+    })?;
+    Ok(())
 }

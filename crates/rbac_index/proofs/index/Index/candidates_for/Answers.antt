@@ -1,5 +1,5 @@
 use Rattle.rbac_index.specs.HolderViews.{requested_of}
-use Rattle.rbac_index.proofs.IndexLemmas.{have_numbers, urls_within, found_within, candidates_urls, candidates_listed}
+use Rattle.rbac_index.proofs.IndexLemmas.{have_numbers, urls_within, found_within, urls_asked, listed_asked}
 use Rattle.rbac_index.proofs.index.Index.candidates_for.Goals as goal
 
 pub allowed_by-requires-clause-rules : goal.allowed_by-requires-clause-rules
@@ -18,12 +18,12 @@ pub allowed_by-requires-else-is_url-clause-numbers : goal.allowed_by-requires-el
 allowed_by-requires-else-is_url-clause-numbers c =
     rw (c.as_slice-rules.ensures.value, c.as_slice-starts.ensures.value) (have_numbers c.self.inside.policy.now c.self.inside.listed.rules.items c.self.inside.listed.lists c.self.inside.starts.items c.self.invariant.0)
 
-pub returns-in_ok-allowed_by : goal.returns-in_ok-allowed_by
-returns-in_ok-allowed_by c =
-    rw (← c.self.view_is) (candidates_urls c.self.inside.policy.now c.self.inside.listed.rules.items c.self.inside.listed.lists c.self.inside.starts.items c.self.invariant.0 c.args.verb.now (requested_of c.args.requested) c.in_ok-allowed_by.field-0
-    (rw c.target-target.ensures at c.if-is_url.ensures) c.in_ok-allowed_by.ensures.ascending (rw (← c.as_slice-rules.ensures.value, ← c.as_slice-starts.ensures.value, ← c.as_slice-places.ensures) c.in_ok-allowed_by.ensures.exact))
+pub returns-then-is_url : goal.returns-then-is_url
+returns-then-is_url c =
+    rw (← c.self.view_is) (urls_asked c.self.inside.policy.now c.self.inside.listed.rules.items c.self.inside.listed.lists c.self.inside.starts.items c.self.invariant.0 c.args.verb.now (requested_of c.args.requested) c.allowed_by.result
+    (rw c.target-target.ensures at c.if-is_url.ensures) c.allowed_by.ensures.ascending (rw (← c.as_slice-rules.ensures.value, ← c.as_slice-starts.ensures.value, ← c.as_slice-places.ensures) c.allowed_by.ensures.exact))
 
-pub returns-in_ok-allowed_by-2 : goal.returns-in_ok-allowed_by-2
-returns-in_ok-allowed_by-2 c =
-    rw (← c.self.view_is) (candidates_listed c.self.inside.policy.now c.self.inside.listed.rules.items c.self.inside.listed.lists c.self.inside.starts.items c.self.invariant.0 c.args.verb.now (requested_of c.args.requested) c.in_ok-places.places.items c.in_ok-allowed_by-2.field-0
-    (rw c.target-target.ensures at c.if-is_url.ensures) (rw (← c.target-target.ensures, ← c.text.ensures.text) c.in_ok-places.ensures) c.in_ok-allowed_by-2.ensures.ascending (rw (← c.as_slice-rules.ensures.value, ← c.as_slice-starts.ensures.value, ← c.as_slice.ensures.value) c.in_ok-allowed_by-2.ensures.exact))
+pub returns-in_ok-places : goal.returns-in_ok-places
+returns-in_ok-places c =
+    rw (← c.self.view_is) (listed_asked c.self.inside.policy.now c.self.inside.listed.rules.items c.self.inside.listed.lists c.self.inside.starts.items c.self.invariant.0 c.args.verb.now (requested_of c.args.requested) c.in_ok-places.places.items c.allowed_by-else-is_url.result
+    (rw c.target-target.ensures at c.if-is_url.ensures) (rw (← c.target-target.ensures, ← c.text.ensures.text) c.in_ok-places.ensures) c.allowed_by-else-is_url.ensures.ascending (rw (← c.as_slice-rules.ensures.value, ← c.as_slice-starts.ensures.value, ← c.as_slice.ensures.value) c.allowed_by-else-is_url.ensures.exact))
