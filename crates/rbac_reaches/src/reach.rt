@@ -1,6 +1,6 @@
 //! The places of a universe's targets that the rules of grants match.
 
-ghost use Rattle.std.specs.Prelude.{◌≡◌, ◌<◌, ◌≤◌, IfOk, length, slice_index};
+ghost use Rattle.std.specs.Prelude.{◌≡◌, ◌<◌, ◌≤◌, ◌+◌, IfOk, OnOk, length, slice_index};
 ghost use Rattle.std.specs.List.Sorted.{IsStrictlyIncreasing};
 ghost use Rattle.rbac_reaches.specs.Matched.{AreStemEndsOf};
 ghost use Rattle.rbac_reaches.specs.Reaches.{raised, IsReachAt, AreReachesBelow, AreReaches};
@@ -107,17 +107,28 @@ pub fn reaches_of(
     let ends = stem_ends_of(alloc, universe)?;
     let mut reaches = Vec::new(alloc);
     for no in 0..index.len() {
-        let reach = next_reach(
-            alloc,
-            index,
-            universe,
-            ends.as_slice(),
-            reaches.as_slice(),
-            no,
-        )?;
-        reaches.push(reach)?;
+        push_next(alloc, index, universe, ends.as_slice(), &mut reaches, no)?;
     }
     Ok(reaches)
+}
+
+// Adds the reach of the grant with this number to those of all grants before it.
+fn push_next(
+    alloc: Global,
+    index: &Index<'_>,
+    universe: &Universe,
+    ends: &[u32],
+    reaches: &mut Vec<Reach>,
+    no: u32,
+) -> Result<(), IndexFault>
+    requires number { no < length index.now.grants }
+    requires ends { AreStemEndsOf universe.now ends.now }
+    requires before { AreReachesBelow index.now universe.now no reaches.old.items }
+    ensures { OnOk result (AreReachesBelow index.now universe.now (no + 1) reaches.new.items) }
+{
+    let reach = next_reach(alloc, index, universe, ends, reaches.as_slice(), no)?;
+    reaches.push(reach)?;
+    Ok(())
 }
 
 // The reach of the grant with this number, given those of all grants before it.
