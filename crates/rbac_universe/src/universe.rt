@@ -71,6 +71,15 @@ impl Universe {
         if !are_proper(lists) {
             return Err(UniverseFault::BadTarget);
         }
+        Self::of_proper(alloc, lists)
+    }
+
+    // The universe of lists whose resources and URLs are proper.
+    fn of_proper(alloc: Global, lists: &UniverseLists) -> Result<Self, UniverseFault>
+        requires { AreProper lists.now }
+        ensures ok { IfOk result (IsUniverseOf lists.now) }
+        ensures fault { IfErr result (HasUniverseFault lists.now) }
+    {
         let sets = UniverseSets::of(alloc, lists)?;
         if !sets.is_within_limits() {
             return Err(UniverseFault::TooLarge);
