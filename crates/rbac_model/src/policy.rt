@@ -88,7 +88,8 @@ impl Policy {
             → r.name ≡ name.now → IsPlain r → IsOkAnd result (λ ws. ws ≡ []) }
         ensures only_memory { IfErr result (λ e. e ≡ ResolveFault.NoMemory) }
     {
-        Ok(names_from(alloc, &self.objects, &self.reached, name)?)
+        let names = names_from(alloc, &self.objects, &self.reached, name)?;
+        Ok(names)
     }
 
     /// Whether the cluster role at the first place reaches the one at the second by one or more
