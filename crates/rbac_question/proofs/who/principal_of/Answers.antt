@@ -1,4 +1,4 @@
-use Rattle.std.proofs.Common.{◌≡◌, ◌++◌, List, codes, map, refl, subst, sym, Bor}
+use Rattle.std.proofs.Common.{◌≡◌, ◌++◌, List, codes, map, refl, rules, subst, sym, Bor}
 use Rattle.std.specs.Prelude.{option_map}
 use Rattle.rbac_terms.specs.Text.{Text}
 use Rattle.rbac_terms.specs.Principals.{AsUser, AsMember}
@@ -17,3 +17,6 @@ returns-in-Some-name_behind-clause-unnamed c = λ h.
     let who = subst (λ (l : WhoParts). l.key ≡ codes "g:" ++ group) c.who.view_is c.in-Some-name_behind.ensures.0 in
     let none = c.lacks_groups.ensures.0 c.if-lacks_groups.true in
     absurd (h (AsMember group) (who, c.in-Some-name_behind.ensures.1, none.0, none.1))
+
+pub returns-in-Some-name_behind-clause-answer : goal.returns-in-Some-name_behind-clause-answer
+returns-in-Some-name_behind-clause-answer c = search rules
