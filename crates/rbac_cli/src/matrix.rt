@@ -110,12 +110,20 @@ fn basis_of(alloc: Global, export: &Export) -> Result<MatrixBasis<'_>, UniverseF
     ensures reaches { IfOk result
         (λ basis. AreReaches basis.index basis.universe basis.reaches.items) }
 {
-    let lists = export.lists(alloc)?;
-    let universe = Universe::build(alloc, &lists)?;
+    let universe = universe_of(alloc, export)?;
     match basis_over(alloc, export.policy(), universe) {
         Ok(basis) => Ok(basis),
         Err(_) => Err(UniverseFault::NoMemory),
     }
+}
+
+// The universe of what was loaded. Its lists are dropped once it is built.
+fn universe_of(alloc: Global, export: &Export) -> Result<Universe, UniverseFault>
+    ensures { MatchResult result
+        (IsUniverseOf export.now.lists) (HasUniverseFault export.now.lists) }
+{
+    let lists = export.lists(alloc)?;
+    Universe::build(alloc, &lists)
 }
 
 // What the matrix of a policy over a universe is built on.
