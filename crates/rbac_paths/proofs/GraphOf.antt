@@ -31,6 +31,13 @@ pushed P ys d xs x count len each last k y low at = elim (cases_lt k count) [
       )
 ]
 
+-- one more node, and the words by which it can be had
+pub had_more : (ys : List NodeView) (count : ℕ) (had : List (List Text)) (ws : List Text) → AreHad ys count had → ((y : NodeView) → slice_get ys count ≡ Some y → IsHadBy y ws) → AreHad ys (count + 1) (had ++ ws ∷ [])
+had_more ys count had ws h words = record {
+  len = length_push had ws ∙ ap (λ (n : ℕ). n + 1) h.len;
+  words = pushed (λ k y x. IsHadBy y x) ys [] had ws count h.len h.words words;
+}
+
 module _ (p : PolicyView) (steps : List Step) (ys : List NodeView) where
   pub joints_more : (count : ℕ) (takes : List (List Text)) (also : List (List ℕ)) (ws : List Text) (js : List ℕ) → AreJoints p steps ys count takes also
       → ((y : NodeView) → slice_get ys count ≡ Some y → TakesByWords p steps y ws) → ((y : NodeView) → slice_get ys count ≡ Some y → AreOthers p steps y ys js)
@@ -40,12 +47,6 @@ module _ (p : PolicyView) (steps : List Step) (ys : List NodeView) where
     also_len = length_push also js ∙ ap (λ (n : ℕ). n + 1) j.also_len;
     words = pushed (λ k y x. TakesByWords p steps y x) ys [] takes ws count j.takes_len j.words words;
     others = pushed (λ k y x. AreOthers p steps y ys x) ys [] also js count j.also_len j.others others;
-  }
-
-  pub had_more : (count : ℕ) (had : List (List Text)) (ws : List Text) → AreHad ys count had → ((y : NodeView) → slice_get ys count ≡ Some y → IsHadBy y ws) → AreHad ys (count + 1) (had ++ ws ∷ [])
-  had_more count had ws h words = record {
-    len = length_push had ws ∙ ap (λ (n : ℕ). n + 1) h.len;
-    words = pushed (λ k y x. IsHadBy y x) ys [] had ws count h.len h.words words;
   }
 
   module _ (takes had : List (List Text)) (also : List (List ℕ)) (joints : AreJoints p steps ys (length ys) takes also) (are : AreHad ys (length ys) had) where

@@ -1,4 +1,6 @@
 use Rattle.std.proofs.Common.{◌≡◌, ◌∙◌, None, Some, arith, get_or, map, refl, subst, sym}
+use Rattle.std.proofs.lemmas.List.{length-map}
+use Rattle.std.proofs.lemmas.Option.{slice_get_within}
 use Rattle.rbac_paths.specs.Aims.{ToTakeOver}
 use Rattle.rbac_paths.specs.Deciding.{AreNumbersOf}
 use Rattle.rbac_paths.specs.Nodes.{node_of}
@@ -6,8 +8,43 @@ use Rattle.rbac_paths.specs.Reasons.{IsReason, reason_view}
 use Rattle.rbac_paths.specs.TakingOver.{TakesOver}
 use Rattle.rbac_paths.specs.Told.{HasItsRole, IsFirstTold}
 use Rattle.rbac_paths.proofs.Mapped.{mapped_at, mapped_has}
-use Rattle.rbac_paths.proofs.Tracing.{matched_none, matched_some, takes_both}
+use Rattle.rbac_paths.proofs.Tracing.{matched_none, matched_some, start, takes_both}
 use Rattle.rbac_paths.proofs.all_paths.path_at.Goals as goal
+
+pub returns-then-stop-eq0 : goal.returns-then-stop-eq0
+returns-then-stop-eq0 c =
+    let s = c.in-Some-Some.stop in
+    let at : get_or c.args.stops.now c.args.place None ≡ Some s = sym (c.in-Some-Some.ensures.lookup.3.1 None) ∙ c.in-Some-Some.field-0-is in
+    start c.args.policy.now c.args.steps.now (map node_of c.args.nodes.now) c.args.stops.now c.args.place s at (omega (arith, c.if-stop-eq0.true))
+
+pub returns-in_default-get : goal.returns-in_default-get
+returns-in_default-get c =
+    let s = c.in-Some-Some.stop in
+    let at : get_or c.args.stops.now c.args.place None ≡ Some s = sym (c.in-Some-Some.ensures.lookup.3.1 None) ∙ c.in-Some-Some.field-0-is in
+    let w = c.requires.linked c.args.place s at (λ none. (let not = c.if-stop-eq0.false in omega (arith, none, not))) in
+    let low = slice_get_within (map node_of c.args.nodes.now) s.before w.0 w.2 in
+    let len = length-map c.args.nodes.now node_of in
+    let past = c.in_default-get.ensures.lookup.3 in
+    absurd (omega (arith, low, len, past))
+
+pub returns-in_default-get-2 : goal.returns-in_default-get-2
+returns-in_default-get-2 c =
+    let s = c.in-Some-Some.stop in
+    let at : get_or c.args.stops.now c.args.place None ≡ Some s = sym (c.in-Some-Some.ensures.lookup.3.1 None) ∙ c.in-Some-Some.field-0-is in
+    let w = c.requires.linked c.args.place s at (λ none. (let not = c.if-stop-eq0.false in omega (arith, none, not))) in
+    let low = slice_get_within (map node_of c.args.nodes.now) c.args.place w.1 w.3 in
+    let len = length-map c.args.nodes.now node_of in
+    let past = c.in_default-get-2.ensures.lookup.3 in
+    absurd (omega (arith, low, len, past))
+
+pub last_step-requires-clause-policy : goal.last_step-requires-clause-policy
+last_step-requires-clause-policy c = c.requires.policy
+
+pub last_step-requires-clause-index : goal.last_step-requires-clause-index
+last_step-requires-clause-index c = c.requires.index
+
+pub last_step-requires-clause-all : goal.last_step-requires-clause-all
+last_step-requires-clause-all c = c.requires.all
 
 pub last_step-requires-clause-role : goal.last_step-requires-clause-role
 last_step-requires-clause-role c =

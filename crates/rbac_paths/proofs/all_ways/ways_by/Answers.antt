@@ -1,15 +1,44 @@
-use Rattle.std.proofs.Common.{◌≡◌, List, MatchOption, None, Option, ℕ, get_or, map, subst, sym, take}
-use Rattle.std.proofs.lemmas.List.{get_or_default, take_more}
+use Rattle.std.proofs.Common.{◌≡◌, ◌∙◌, false, true, List, MatchOption, None, Option, ℕ, get_or, map, subst, sym, take}
+use Rattle.std.proofs.lemmas.List.{get_or_default, take_all, take_more}
+use Rattle.std.proofs.lemmas.Bool.{false≢true}
 use Rattle.rbac_ways.specs.Ways.{AreInOrder}
 use Rattle.rbac_ways.specs.declared.graph.Stop.{Stop}
 use Rattle.rbac_paths.specs.Access.{access_of}
 use Rattle.rbac_paths.specs.Nodes.{node_of}
-use Rattle.rbac_paths.specs.TracingWays.{IsToldAt, IsUntoldAt, IsWayAt}
+use Rattle.rbac_paths.specs.TracingWays.{AllowAtEnds, AreLinkedOn, AreWaysAt, IsToldAt, IsUntoldAt, IsWayAt}
 use Rattle.rbac_paths.specs.WaysTo.{IsShorter}
-use Rattle.rbac_paths.proofs.Tracing.{matched_none, matched_some, met_before, told_more, told_same}
+use Rattle.rbac_paths.proofs.Tracing.{matched_none, matched_some, met_before, told_more, told_none, told_same}
 use Rattle.rbac_paths.proofs.WaysTold.{not_come, shorter, told_there}
 use Rattle.rbac_paths.proofs.all_ways.ways_by.Goals as goal
 use Rattle.rbac_paths.proofs.all_ways.ways_by.Goals.{then-is_met+in_ok-way, else-is_met, in-Some+in_ok-push, in_default}
+
+pub way_at-requires-clause-policy : goal.way_at-requires-clause-policy
+way_at-requires-clause-policy c = c.requires.policy
+
+pub way_at-requires-clause-index : goal.way_at-requires-clause-index
+way_at-requires-clause-index c = c.requires.index
+
+pub way_at-requires-clause-all : goal.way_at-requires-clause-all
+way_at-requires-clause-all c = c.in_ok-all.ensures
+
+pub way_at-requires-clause-held : goal.way_at-requires-clause-held
+way_at-requires-clause-held c = c.requires.held
+
+pub way_at-requires-clause-numbers : goal.way_at-requires-clause-numbers
+way_at-requires-clause-numbers c = c.requires.numbers
+
+pub way_at-requires-clause-linked : goal.way_at-requires-clause-linked
+way_at-requires-clause-linked c =
+    subst (λ (ss : List (Option Stop)). AreLinkedOn c.args.policy.now c.args.steps.now (map node_of c.args.nodes.now) ss) (sym c.as_slice-stops.ensures.value) c.requires.linked
+
+pub way_at-requires-clause-ends : goal.way_at-requires-clause-ends
+way_at-requires-clause-ends c =
+    subst (λ (ss : List (Option Stop)). AllowAtEnds c.args.policy.now (access_of c.args.access) (map node_of c.args.nodes.now) ss) (sym c.as_slice-stops.ensures.value) c.requires.ends
+
+pub loop-place-init : goal.loop-place-init
+loop-place-init c =
+    let stops = c.args.reached.now.stops.items in
+    told_none (IsToldAt c.args.policy.now c.args.steps.now (access_of c.args.access) (map node_of c.args.nodes.now) c.args.come.now stops) (IsUntoldAt c.args.come.now stops) IsShorter _ c.new-ways.ensures.items
 
 pub loop-place-preserved : goal.loop-place-preserved
 loop-place-preserved c =
@@ -31,7 +60,7 @@ loop-place-preserved c =
           (told_there p steps ys stops asked come place (c.is_met.ensures.0 w.if-is_met.true) _
           (subst (λ (ss : List (Option Stop)). MatchOption w.in_ok-way.way (get_or ss place None ≡ None) (IsWayAt p steps asked ys ss place)) same w.in_ok-way.ensures))
       | else-is_met w ↦ rw w.way'-is
-          (not_come p steps ys stops asked come place (λ is. (let both = c.is_met.ensures.1 is in let not = w.if-is_met.false in cc)))
+          (not_come p steps ys stops asked come place (λ is. false≢true (sym w.if-is_met.false ∙ c.is_met.ensures.1 is)))
     ] in
     rw (take_more items i 0 c.loop-place-test.true) (elim c.match-way.branch [
       | in-Some+in_ok-push w ↦ rw (w.ways-is, w.in_ok-push.ensures.items)
@@ -42,3 +71,8 @@ loop-place-preserved c =
           (told_same (IsToldAt p steps asked ys come stops) (IsUntoldAt come stops) IsShorter (take i items) place ways c.loop-place.invariant
           (matched_none c.if-is_met.way' (IsUntoldAt come stops place) (IsToldAt p steps asked ys come stops place) w.in_default.not-Some way))
     ])
+
+pub returns : goal.returns
+returns c =
+    subst (λ (js : List ℕ). AreWaysAt c.args.policy.now c.args.steps.now (access_of c.args.access) (map node_of c.args.nodes.now) c.args.come.now c.args.reached.now.stops.items js c.loop-place.ways.items)
+    (take_all c.loop-place.place-index c.as_slice-place-items.result.now c.loop-place-test.false ∙ c.as_slice-place-items.ensures.value) c.loop-place.invariant

@@ -1,14 +1,31 @@
-use Rattle.std.proofs.Common.{◌≡◌, ◌∙◌, Some, arith, length, map, slice_get}
+use Rattle.std.proofs.Common.{◌≡◌, ◌∙◌, Some, arith, length, map, slice_get, subst, sym}
+use Rattle.std.proofs.lemmas.Bool.{false≢true}
 use Rattle.std.proofs.lemmas.List.{length-map}
 use Rattle.std.proofs.lemmas.Option.{slice_get_within}
 use Rattle.rbac_paths.specs.Access.{AllowsAccess, access_of}
+use Rattle.rbac_paths.specs.Allowed.{MarkAllowing}
 use Rattle.rbac_paths.specs.Nodes.{node_of}
 use Rattle.rbac_paths.specs.Told.{HasItsRole}
 use Rattle.rbac_paths.specs.Tracing.{IsAt}
 use Rattle.rbac_paths.proofs.Mapped.{mapped_at, mapped_has}
-use Rattle.rbac_paths.proofs.Tracing.{all_below, below_more, below_same, is_here}
+use Rattle.rbac_paths.proofs.Tracing.{all_below, below_more, below_none, below_same, is_here}
 use Rattle.rbac_paths.proofs.allowed.places_of_allowing.Goals as goal
 use Rattle.rbac_paths.proofs.allowed.places_of_allowing.Goals.{then-branch+in_ok-push, else-branch}
+
+pub allows-requires-clause-policy : goal.allows-requires-clause-policy
+allows-requires-clause-policy c = c.requires.policy
+
+pub allows-requires-clause-index : goal.allows-requires-clause-index
+allows-requires-clause-index c = c.requires.index
+
+pub allows-requires-clause-all : goal.allows-requires-clause-all
+allows-requires-clause-all c = c.in_ok-all.ensures
+
+pub allows-requires-clause-marks : goal.allows-requires-clause-marks
+allows-requires-clause-marks c = subst (MarkAllowing c.args.policy.now (access_of c.args.access)) (sym c.as_slice-marks.ensures.value) c.in_ok-marks.ensures
+
+pub loop-place-init : goal.loop-place-init
+loop-place-init c = below_none (IsAt (AllowsAccess c.args.policy.now (access_of c.args.access)) (map node_of c.args.nodes.now)) _ c.new-places.ensures.items
 
 pub allows-requires-clause-role : goal.allows-requires-clause-role
 allows-requires-clause-role c = mapped_has node_of (HasItsRole c.args.policy.now.held) c.args.nodes.now c.loop-place.place c.index-nodes-place.result c.loop-place-test.true c.index-nodes-place.is c.requires.held
@@ -26,7 +43,7 @@ loop-place-preserved c =
           (below_more (IsAt Is ys) place js c.loop-place.invariant (y, at, c.in_ok-allows.ensures.0 w.if-branch.true))
       | else-branch w ↦ rw w.places-is
           (below_same (IsAt Is ys) place js c.loop-place.invariant
-          (λ has. (let both = c.in_ok-allows.ensures.1 (is_here Is ys place y at has) in let not = w.if-branch.false in cc)))
+          (λ has. false≢true (sym w.if-branch.false ∙ c.in_ok-allows.ensures.1 (is_here Is ys place y at has))))
     ]
 
 pub returns : goal.returns
