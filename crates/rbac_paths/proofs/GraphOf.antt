@@ -39,6 +39,15 @@ had_more ys count had ws h words = record {
 }
 
 module _ (p : PolicyView) (steps : List Step) (ys : List NodeView) where
+  -- of no nodes
+  pub joints_none : (takes : List (List Text)) (also : List (List ℕ)) → takes ≡ [] → also ≡ [] → AreJoints p steps ys 0 takes also
+  joints_none takes also no_takes no_also = record {
+    takes_len = ap length no_takes;
+    also_len = ap length no_also;
+    words = λ k y low at. absurd (omega (arith, low));
+    others = λ k y low at. absurd (omega (arith, low));
+  }
+
   pub joints_more : (count : ℕ) (takes : List (List Text)) (also : List (List ℕ)) (ws : List Text) (js : List ℕ) → AreJoints p steps ys count takes also
       → ((y : NodeView) → slice_get ys count ≡ Some y → TakesByWords p steps y ws) → ((y : NodeView) → slice_get ys count ≡ Some y → AreOthers p steps y ys js)
       → AreJoints p steps ys (count + 1) (takes ++ ws ∷ []) (also ++ js ∷ [])

@@ -1,7 +1,7 @@
 //! Whom and what somebody comes to.
 
-ghost use Rattle.std.specs.Prelude.{◌≡◌, ◌↔◌, ℕ, All, AllPairs, Contains, IfOk, IsTrue};
-ghost use Rattle.std.specs.Prelude.{MatchOption, length, map};
+ghost use Rattle.std.specs.Prelude.{◌≡◌, ◌≢◌, ◌↔◌, ℕ, All, AllPairs, Contains, IfOk, IsTrue};
+ghost use Rattle.std.specs.Prelude.{MatchOption, None, Some, length, map, slice_index_or};
 ghost use Rattle.std.specs.declared.cmp.Ordering.TheVariants.{Less};
 ghost use Rattle.rbac_terms.specs.Text.{text_cmp};
 ghost use Rattle.rbac_model.specs.Lists.{IsAscendingBy};
@@ -204,12 +204,9 @@ fn path_at<'p>(
     ensures { IfOk result (λ path. MatchOption path (IsUnled stops.now place)
         (IsPathAt policy.now steps.now (map node_of nodes.now) stops.now place)) }
 {
-    let Some(Some(stop)) = stops.get(place) else {
+    let Some(stop) = led_at(stops, place) else {
         return Ok(None);
     };
-    if stop.edges == 0 {
-        return Ok(None);
-    }
     let Some(before) = nodes.get(stop.before) else {
         return Ok(None);
     };
@@ -228,6 +225,20 @@ fn path_at<'p>(
         step,
         reason,
     }))
+}
+
+// The stop at this place, if an edge leads there.
+fn led_at(stops: &[Option<Stop>], place: usize) -> Option<&Stop>
+    ensures { MatchOption result (IsUnled stops.now place)
+        (λ stop. (slice_index_or stops.now place None ≡ Some stop.now) × (stop.now.edges ≢ 0)) }
+{
+    let Some(Some(stop)) = stops.get(place) else {
+        return None;
+    };
+    if stop.edges == 0 {
+        return None;
+    }
+    Some(stop)
 }
 
 // The first of these steps by which a node takes over another, as is told, and why it is one; `None`

@@ -89,15 +89,15 @@ fn put_source(line: &mut Vec<u8>, source: SourceRole<'_>) -> Result<(), AllocErr
     }
 }
 
+// The end of the line where there is no binding, no role, no rule and no subject.
+const NONE_OF_IT: &[u8] = b"-\t-\t-\t-\t-\n";
+
 // Adds that there is no binding, no role, no rule and no subject.
 fn put_all_line(line: &mut Vec<u8>) -> Result<(), AllocError>
     ensures { OnOk result (line.new.items ≡ line.old.items ++ all_line) }
 {
-    put_field_and_tab(line, b"")?;
-    put_field_and_tab(line, b"")?;
-    put_field_and_tab(line, b"")?;
-    put_field_and_tab(line, b"")?;
-    put_end(line)
+    line.extend_from_slice(NONE_OF_IT)?;
+    Ok(())
 }
 
 // Adds that there is no subject, and the end of the line.

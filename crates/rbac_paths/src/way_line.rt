@@ -26,15 +26,17 @@ pub fn put_way(line: &mut Vec<u8>, way: &Way<'_>) -> Result<(), AllocError>
     put_reason(line, way.node, way.reason)
 }
 
+// What stands for the node and the step where there is none.
+const NO_STEP: &[u8] = b"-\t-\t-\t";
+
 // Adds the node that a step leads to, and the step; three `-` if there is none.
 fn put_next(line: &mut Vec<u8>, next: Option<Next<'_>>) -> Result<(), AllocError>
     ensures { OnOk result (line.new.items ≡ line.old.items ++ next_text
         (option_map (λ n. record { node = node_of n.node; step = n.step }) next.entry)) }
 {
     let Some(next) = next else {
-        put_field_and_tab(line, b"")?;
-        put_field_and_tab(line, b"")?;
-        return put_field_and_tab(line, b"");
+        line.extend_from_slice(NO_STEP)?;
+        return Ok(());
     };
     put_node(line, next.node)?;
     put_field_and_tab(line, next.step.word())

@@ -1,9 +1,10 @@
-use Rattle.std.proofs.Common.{◌≡◌, ◌↔◌, ◌∙◌, All, Bor, Contains, List, ℕ, map, subst, sym}
+use Rattle.std.proofs.Common.{◌≡◌, ◌≢◌, ◌↔◌, ◌∙◌, All, AllPairs, Bor, Contains, List, ℕ, map, subst, sym}
 use Rattle.std.proofs.lemmas.Result.{IfOk-weaker}
-use Rattle.rbac_terms.specs.Principals.{Who}
-use Rattle.rbac_terms.specs.Text.{Text}
+use Rattle.std.specs.declared.cmp.Ordering.TheVariants.{Less}
+use Rattle.rbac_terms.specs.Principals.{Who, who_key}
+use Rattle.rbac_terms.specs.Text.{Text, text_cmp}
 use Rattle.rbac_ways.specs.Ways.{AreStops}
-use Rattle.rbac_paths.specs.NodeLists.{AreNodes}
+use Rattle.rbac_paths.specs.NodeLists.{AreNodes, node_text}
 use Rattle.rbac_paths.specs.Nodes.{node_of}
 use Rattle.rbac_paths.specs.Paths.{IsGraphOf}
 use Rattle.rbac_paths.specs.Principals.{IsOneWith}
@@ -14,6 +15,35 @@ use Rattle.rbac_paths.specs.declared.steps.Step.{Step}
 use Rattle.rbac_paths.proofs.PathsFound.{are_paths, held, in_order, linked}
 use Rattle.rbac_paths.proofs.WhatDecides.{same_numbers}
 use Rattle.rbac_paths.proofs.all_paths.paths.Goals as goal
+
+pub nodes_of-requires-clause-keys : goal.nodes_of-requires-clause-keys
+nodes_of-requires-clause-keys c =
+    subst (λ (ws : List (Bor Who)). AllPairs (λ a b. who_key a.now ≢ who_key b.now) ws) (sym c.as_slice.ensures.value) (c.in_ok-all.ensures.apart c.requires.ordered)
+
+pub numbers_of_nodes-requires-clause-policy : goal.numbers_of_nodes-requires-clause-policy
+numbers_of_nodes-requires-clause-policy c = c.in_ok-names.ensures.policy
+
+pub numbers_of_nodes-requires-clause-index : goal.numbers_of_nodes-requires-clause-index
+numbers_of_nodes-requires-clause-index c = c.requires.index
+
+pub graph_of-requires-clause-policy : goal.graph_of-requires-clause-policy
+graph_of-requires-clause-policy c = c.in_ok-names.ensures.policy
+
+pub graph_of-requires-clause-index : goal.graph_of-requires-clause-index
+graph_of-requires-clause-index c = c.requires.index
+
+pub paths_by-requires-clause-policy : goal.paths_by-requires-clause-policy
+paths_by-requires-clause-policy c = c.in_ok-names.ensures.policy
+
+pub paths_by-requires-clause-index : goal.paths_by-requires-clause-index
+paths_by-requires-clause-index c = c.requires.index
+
+pub paths_by-requires-clause-ordered : goal.paths_by-requires-clause-ordered
+paths_by-requires-clause-ordered c =
+    subst (λ (ns : List Node). AllPairs (λ y z. text_cmp (node_text y) (node_text z) ≡ Less) (map node_of ns)) (sym c.as_slice-11.ensures.value) c.in_ok-nodes.ensures.ordered
+
+pub paths_by-requires-clause-order : goal.paths_by-requires-clause-order
+paths_by-requires-clause-order c = c.in_ok-reached.ensures.order
 
 pub nodes_of-requires-clause-names : goal.nodes_of-requires-clause-names
 nodes_of-requires-clause-names c = rw c.as_slice-2.ensures.value (in_order c.in_ok-names.names.items c.in_ok-names.ensures.names.ascending)

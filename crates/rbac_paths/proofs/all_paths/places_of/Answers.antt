@@ -1,4 +1,5 @@
-use Rattle.std.proofs.Common.{◌≡◌, ◌∙◌, Some, arith, length, map, slice_get}
+use Rattle.std.proofs.Common.{◌≡◌, ◌∙◌, Some, arith, length, map, slice_get, sym}
+use Rattle.std.proofs.lemmas.Bool.{false≢true}
 use Rattle.std.proofs.lemmas.List.{length-map}
 use Rattle.std.proofs.lemmas.Option.{slice_get_within}
 use Rattle.rbac_paths.specs.Nodes.{node_of}
@@ -21,7 +22,7 @@ loop-place-preserved c =
           (below_more (HasKeyAt ys who) place js c.loop-place.invariant (y, at, c.has_key_of.ensures.0 w.if-has_key_of.true))
       | else-has_key_of w ↦ rw w.places-is
           (below_same (HasKeyAt ys who) place js c.loop-place.invariant
-          (λ has. (let both = c.has_key_of.ensures.1 (is_here (HasKeyOf who) ys place y at has) in let not = w.if-has_key_of.false in cc)))
+          (λ has. false≢true (sym w.if-has_key_of.false ∙ c.has_key_of.ensures.1 (is_here (HasKeyOf who) ys place y at has))))
     ]
 
 pub returns : goal.returns

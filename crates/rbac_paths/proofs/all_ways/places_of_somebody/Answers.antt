@@ -1,4 +1,5 @@
-use Rattle.std.proofs.Common.{◌≡◌, ◌∙◌, Some, arith, length, map, slice_get}
+use Rattle.std.proofs.Common.{◌≡◌, ◌∙◌, Some, arith, length, map, slice_get, sym}
+use Rattle.std.proofs.lemmas.Bool.{false≢true}
 use Rattle.std.proofs.lemmas.List.{length-map}
 use Rattle.std.proofs.lemmas.Option.{slice_get_within}
 use Rattle.rbac_paths.specs.Nodes.{node_of}
@@ -21,7 +22,7 @@ loop-place-preserved c =
           (below_more (IsAt IsSomebody ys) place js c.loop-place.invariant (y, at, c.is_somebody.ensures.0 w.if-is_somebody.true))
       | else-is_somebody w ↦ rw w.places-is
           (below_same (IsAt IsSomebody ys) place js c.loop-place.invariant
-          (λ has. (let both = c.is_somebody.ensures.1 (is_here IsSomebody ys place y at has) in let not = w.if-is_somebody.false in cc)))
+          (λ has. false≢true (sym w.if-is_somebody.false ∙ c.is_somebody.ensures.1 (is_here IsSomebody ys place y at has))))
     ]
 
 pub returns : goal.returns

@@ -1,4 +1,5 @@
-use Rattle.std.proofs.Common.{◌≡◌, ◌<◌, List, ℕ, Some, arith, get_or, length, map, rules, slice_get, subst, sym, take}
+use Rattle.std.proofs.Common.{◌≡◌, ◌∙◌, ◌<◌, List, ℕ, Some, arith, get_or, length, map, rules, slice_get, subst, sym, take}
+use Rattle.std.proofs.lemmas.Bool.{false≢true}
 use Rattle.std.proofs.lemmas.List.{length-map, take_all, take_more}
 use Rattle.std.proofs.lemmas.List.Elements.{Contains-get_or}
 use Rattle.std.proofs.lemmas.Option.{slice_get_within}
@@ -48,7 +49,7 @@ loop-place-preserved c =
           (λ p decide scoped. others_more p steps x ys (take i others) place y at js (c.loop-place.invariant p decide scoped) nobody ((c.takes_nobody.ensures p decide scoped nobody).0 w.if-takes_nobody.true))
       | else-takes_nobody w ↦ rw (w.taken-is, take_more others i 0 c.loop-place-test.true)
           (λ p decide scoped. others_same p steps x ys (take i others) place y at js (c.loop-place.invariant p decide scoped)
-          (λ t. (let both = (c.takes_nobody.ensures p decide scoped nobody).1 t in let not = w.if-takes_nobody.false in cc)))
+          (λ t. false≢true (sym w.if-takes_nobody.false ∙ (c.takes_nobody.ensures p decide scoped nobody).1 t)))
     ]
 
 pub returns : goal.returns
