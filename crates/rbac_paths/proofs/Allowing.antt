@@ -4,7 +4,7 @@ use Rattle.rbac_terms.specs.Text.{Text}
 use Rattle.rbac_terms.specs.Matching.{NameMatches, VerbOk, WordMatches}
 use Rattle.rbac_terms.specs.declared.matching.Rule.{Rule}
 use Rattle.rbac_model.proofs.OwnWords.{any_from}
-use Rattle.rbac_paths.specs.Asked.{HasRowNameFor}
+use Rattle.rbac_paths.specs.Asked.{AllowsRowFor, HasRowNameFor}
 use Rattle.rbac_paths.specs.Rows.{HasRowName, HasRowResource}
 use Rattle.rbac_paths.specs.Steps.{AllowsRow, StepRowView}
 use Rattle.rbac_paths.specs.declared.table.Names.TheVariants as names
@@ -40,6 +40,17 @@ row_allowed r rule a = (
 )
 
 -- of what has a name
+pub allows_row_for : (r : StepRowView) (own : Text) (rule : Rule) → Any (VerbOk rule) r.verbs → Any (λ w. WordMatches w r.group) rule.groups → Any (HasRowResource rule) r.resources → HasRowNameFor r.names own rule → AllowsRowFor r own rule
+allows_row_for r own rule v g x n = record {
+  verb = v.1;
+  text = x.1;
+  name = n.0;
+  of_verbs = (v.0, v.2, v.3);
+  of_resources = (x.0, x.2, x.3);
+  named = n.1;
+  allows = (v.4, (g, x.4, n.2));
+}
+
 pub any_name_for : (own : Text) (rule : Rule) → HasRowNameFor names.Any own rule
 any_name_for own rule = let n = some_name rule.resource_names in (n.0, tt, n.1)
 

@@ -50,45 +50,13 @@ pub(crate) fn graph_of<'p>(
     requires numbers { AreNumbers policy.now steps.now (map node_of nodes.now) (length nodes.now) numbers.now }
     ensures { IfOk result (λ g. IsGraphOf policy.now steps.now (map node_of nodes.now) g) }
 {
-    let rows = rows_of_steps(alloc, &[Step::Bind, Step::Escalate])?;
-    let others = places_of_others(alloc, nodes)?;
-    let marks = marks_of_steps(alloc, policy.objects(), steps)?;
-    graph_by(
-        alloc,
-        policy,
-        index,
-        steps,
-        rows.as_slice(),
-        marks.as_slice(),
-        nodes,
-        others.as_slice(),
-        numbers,
-    )
-}
-
-// The same, where the steps by which one writes are given, marks of the rules that match each step, and
-// the places of all roles and everything.
-fn graph_by<'p>(
-    alloc: Global,
-    policy: &'p Policy,
-    index: &SubjectIndex<'p>,
-    steps: &[StepRows],
-    writing: &[StepRows],
-    marks: &[RuleMarks],
-    nodes: &[Node<'p>],
-    others: &[usize],
-    numbers: &[Items<u32>],
-) -> Result<Graph, AllocError>
-    requires policy { IsPolicy policy.now }
-    requires index { index.now ≡ policy.now }
-    requires writing { writing.now ≡ Bind ∷ Escalate ∷ [] }
-    requires marks { MarkEach policy.now.held steps.now marks.now }
-    requires held { All (HasItsRole policy.now.held) (map node_of nodes.now) }
-    requires others { AreOtherPlaces (map node_of nodes.now) others.now }
-    requires numbers { AreNumbers policy.now steps.now (map node_of nodes.now) (length nodes.now) numbers.now }
-    ensures { IfOk result (λ g. IsGraphOf policy.now steps.now (map node_of nodes.now) g) }
-{
     let all = rule_of_all(alloc)?;
+    let rows = rows_of_steps(alloc, &[Step::Bind, Step::Escalate])?;
+    let writing = rows.as_slice();
+    let others = places_of_others(alloc, nodes)?;
+    let others = others.as_slice();
+    let marks = marks_of_steps(alloc, policy.objects(), steps)?;
+    let marks = marks.as_slice();
     let mut takes = Vec::with_capacity(alloc, nodes.len())?;
     let mut also = Vec::with_capacity(alloc, nodes.len())?;
     for (place, node) in nodes.iter().enumerate() {

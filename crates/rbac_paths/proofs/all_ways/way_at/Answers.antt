@@ -1,4 +1,5 @@
-use Rattle.std.proofs.Common.{◌≡◌, ◌∙◌, None, Some, arith, get_or, map, refl, subst, sym}
+use Rattle.std.proofs.Common.{◌≡◌, ◌<◌, ◌∙◌, None, Some, arith, get_or, inl, inr, length, map, refl, subst, sym}
+use Rattle.std.proofs.lemmas.Bool.{cases_eq}
 use Rattle.std.proofs.lemmas.List.{length-map}
 use Rattle.std.proofs.lemmas.Option.{slice_get_within}
 use Rattle.std.proofs.lemmas.Result.{IfOk-weaker}
@@ -13,6 +14,34 @@ use Rattle.rbac_paths.proofs.Mapped.{mapped_at, mapped_has}
 use Rattle.rbac_paths.proofs.Tracing.{matched_none, matched_some}
 use Rattle.rbac_paths.proofs.WaysTold.{own_told, takes_on}
 use Rattle.rbac_paths.proofs.all_ways.way_at.Goals as goal
+
+pub returns-in_default-get : goal.returns-in_default-get
+returns-in_default-get c =
+    let s = c.in-Some-Some.stop in
+    let ys = map node_of c.args.nodes.now in
+    let at : get_or c.args.stops.now c.args.place None ≡ Some s = sym (c.in-Some-Some.ensures.lookup.3.1 None) ∙ c.in-Some-Some.field-0-is in
+    let low : c.args.place < length ys = elim (cases_eq s.edges 0) [
+      | inl none ↦ (let w = c.requires.ends c.args.place s at none in slice_get_within ys c.args.place w.0 w.1)
+      | inr led ↦ (let w = c.requires.linked c.args.place s at led in slice_get_within ys c.args.place w.0 w.2)
+    ] in
+    let len = length-map c.args.nodes.now node_of in
+    let past = c.in_default-get.ensures.lookup.3 in
+    absurd (omega (arith, low, len, past))
+
+pub own_way-requires-clause-policy : goal.own_way-requires-clause-policy
+own_way-requires-clause-policy c = c.requires.policy
+
+pub own_way-requires-clause-index : goal.own_way-requires-clause-index
+own_way-requires-clause-index c = c.requires.index
+
+pub last_step-requires-clause-policy : goal.last_step-requires-clause-policy
+last_step-requires-clause-policy c = c.requires.policy
+
+pub last_step-requires-clause-index : goal.last_step-requires-clause-index
+last_step-requires-clause-index c = c.requires.index
+
+pub last_step-requires-clause-all : goal.last_step-requires-clause-all
+last_step-requires-clause-all c = c.requires.all
 
 pub own_way-requires-clause-role : goal.own_way-requires-clause-role
 own_way-requires-clause-role c =
