@@ -17,3 +17,6 @@ returns-then-len-ge-FULL-clause-err g c =
 
 pub returns-clause-ok : goal.returns-clause-ok
 returns-clause-ok g c = Prints-pending g.W.Write.contents c.args.sink.now c.args.self.now _ c.args.more.now (search rules) (search rules)
+
+pub returns-then-len-ge-FULL-clause-pending : goal.returns-then-len-ge-FULL-clause-pending
+returns-then-len-ge-FULL-clause-pending g c = search rules
