@@ -1,7 +1,7 @@
 -- What is taken over by some of these steps, and what is told of it.
-use Rattle.std.proofs.Common.{◌≡◌, ◌<◌, ◌∙◌, ◌+◌, ◌⊎◌, ℕ, List, Option, Some, None, Contains, arith, inl, inr, refl, slice_get, subst, sym}
+use Rattle.std.proofs.Common.{◌≡◌, ◌<◌, ◌≤◌, ◌∙◌, ◌+◌, ◌⊎◌, ℕ, Any, List, Option, Some, None, Contains, arith, inl, inr, length, refl, slice_get, subst, sym}
 use Rattle.std.proofs.lemmas.Bool.{cases_lt}
-use Rattle.std.proofs.lemmas.Option.{same_Some}
+use Rattle.std.proofs.lemmas.Option.{same_Some, slice_get_within}
 use Rattle.rbac_terms.specs.Text.{Text}
 use Rattle.rbac_terms.proofs.Reading.{contains_read}
 use Rattle.rbac_model.proofs.OwnWords.{any_from}
@@ -67,18 +67,41 @@ module _ (p : PolicyView) (x : NodeView) (hs : List HoldingView) (steps : List S
 pub all_decide : (p : PolicyView) → IsPolicy p → (x : NodeView) (hs : List HoldingView) → AreHoldings p x hs → (steps : List Step) (y : NodeView) → DecideOn p steps x hs (IsAboutNode y)
 all_decide p ok x hs are steps y step z among about = (by_holdings p ok x hs are step z, in_holdings p ok x hs are step z)
 
+-- none of the first steps is so
+abbrev pub NoneTo : (Step → Type 0) → List Step → ℕ → Type 0
+NoneTo P steps count = (k : ℕ) (s : Step) → k < count → slice_get steps k ≡ Some s → ¬ P s
+
+module _ (P : Step → Type 0) (steps : List Step) where
+  pub none_to_more : (k : ℕ) (s : Step) → slice_get steps k ≡ Some s → ¬ P s → NoneTo P steps k → NoneTo P steps (k + 1)
+  none_to_more k s here isnt none i other low there is = elim (cases_lt i k) [
+    | inl less ↦ none i other less there is
+    | inr high ↦ (let same : i ≡ k = omega (arith, low, high) in
+        let one : other ≡ s = same_Some other s (sym (subst (λ (n : ℕ). slice_get steps n ≡ Some other) same there) ∙ here) in
+        isnt (subst P one is))
+  ]
+
+  pub some_is : (k : ℕ) (s : Step) → slice_get steps k ≡ Some s → P s → Any P steps
+  some_is k s here is = any_from P steps s (contains_read steps k s here) is
+
+  pub none_is : (count : ℕ) → length steps ≤ count → NoneTo P steps count → ¬ Any P steps
+  none_is count all none a =
+      let at = read_contains steps a.1 (a.0, a.2, a.3) in
+      none at.0 a.1 (let low = slice_get_within steps at.0 a.1 at.1 in omega (arith, low, all)) at.1 a.4
+
+-- writing by the step takes over everything in the scope, and binding by it the node
+abbrev pub TakesAll : List HoldingView → Option Text → Step → Type 0
+TakesAll hs scope s = WritesRoles s × HoldingsTake s hs (EverythingIn scope)
+
+abbrev pub Binds : List HoldingView → NodeView → Step → Type 0
+Binds hs y s = (s ≡ Bind) × HoldingsTake s hs y
+
 -- none of the first steps is told
 abbrev pub ToldNoneTo : List Step → List HoldingView → NodeView → ℕ → Type 0
-ToldNoneTo steps hs y count = (k : ℕ) (s : Step) → k < count → slice_get steps k ≡ Some s → ¬ HoldingsTell steps hs y s
+ToldNoneTo steps hs y count = NoneTo (HoldingsTell steps hs y) steps count
 
 module _ (steps : List Step) (hs : List HoldingView) (y : NodeView) where
   pub none_more : (k : ℕ) (s : Step) → slice_get steps k ≡ Some s → ¬ HoldingsTell steps hs y s → ToldNoneTo steps hs y k → ToldNoneTo steps hs y (k + 1)
-  none_more k s here isnt none i other low there told = elim (cases_lt i k) [
-    | inl less ↦ none i other less there told
-    | inr high ↦ (let same : i ≡ k = omega (arith, low, high) in
-        let is : other ≡ s = same_Some other s (sym (subst (λ (n : ℕ). slice_get steps n ≡ Some other) same there) ∙ here) in
-        isnt (subst (λ (z : Step). HoldingsTell steps hs y z) is told))
-  ]
+  none_more = none_to_more (HoldingsTell steps hs y) steps
 
   module _ (p : PolicyView) (x : NodeView) (decide : DecideOn p steps x hs (IsAboutNode y)) where
     pub takes_none : (count : ℕ) → ((k : ℕ) (s : Step) → slice_get steps k ≡ Some s → k < count) → ToldNoneTo steps hs y count → ¬ TakesOver p steps x y

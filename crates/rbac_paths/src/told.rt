@@ -5,13 +5,14 @@ ghost use Rattle.std.specs.Option.{option_copied};
 ghost use Rattle.rbac_model.specs.Policies.{PolicyView};
 ghost use Rattle.rbac_paths.specs.Asked.{AreAskedBy, AreAskedFor};
 ghost use Rattle.rbac_paths.specs.Joints.{DecideOn, IsAboutNode};
-ghost use Rattle.rbac_paths.specs.Nodes.{ClusterRoleIn, node_of};
+ghost use Rattle.rbac_paths.specs.Nodes.{ClusterRoleIn, EverythingIn, node_of};
 ghost use Rattle.rbac_paths.specs.Rows.{AreOfStep};
 ghost use Rattle.rbac_paths.specs.Steps.{table};
 ghost use Rattle.rbac_paths.specs.Taking.{RowTakes};
 ghost use Rattle.rbac_paths.specs.TakingOver.{MayGoOn, TakesOver, WritesRoles};
 ghost use Rattle.rbac_paths.specs.Told.{HoldingTakes, HoldingsBind, HoldingsHaveAll, HoldingsTake};
 ghost use Rattle.rbac_paths.specs.Told.{HoldingsTell, IsFirstTold, IsUntoldOf};
+ghost use Rattle.rbac_paths.specs.declared.steps.Step.TheVariants.{Bind};
 
 use crate::holding::Holding;
 use crate::node::Node;
@@ -217,18 +218,42 @@ fn has_more(
 }
 
 // Whether writing, if that is among these steps, takes over everything in the scope.
-#[tactic(auto, unfolding(crate::specs::Told::HoldingsHaveAll))]
 pub(crate) fn has_all(steps: &[StepRows], holdings: &[Holding<'_>], scope: Option<&Word>) -> bool
     ensures { IsTrue result
         ↔ HoldingsHaveAll steps.now holdings.now (option_copied scope.entry) }
 {
-    steps.iter().any(|rows| writes(rows.step()) && rows.takes(holdings, Node::Everything(scope)))
+    for rows in steps {
+        if takes_all(rows, holdings, scope) {
+            return true;
+        }
+    }
+    false
+}
+
+// Whether one writes by this step, and takes over everything in the scope by it.
+fn takes_all(rows: &StepRows, holdings: &[Holding<'_>], scope: Option<&Word>) -> bool
+    ensures { IsTrue result ↔ (WritesRoles rows.now
+        × HoldingsTake rows.now holdings.now (EverythingIn (option_copied scope.entry))) }
+{
+    writes(rows.step()) && rows.takes(holdings, Node::Everything(scope))
 }
 
 // Whether binding, if that is among these steps, takes over the node.
-#[tactic(auto, unfolding(crate::specs::Told::HoldingsBind))]
 fn binds(steps: &[StepRows], holdings: &[Holding<'_>], to: Node<'_>) -> bool
     ensures { IsTrue result ↔ HoldingsBind steps.now holdings.now (node_of to.entry) }
 {
-    steps.iter().any(|rows| rows.step() == Step::Bind && rows.takes(holdings, to))
+    for rows in steps {
+        if binds_by(rows, holdings, to) {
+            return true;
+        }
+    }
+    false
+}
+
+// Whether this step is binding, and takes over the node.
+fn binds_by(rows: &StepRows, holdings: &[Holding<'_>], to: Node<'_>) -> bool
+    ensures { IsTrue result
+        ↔ ((rows.now ≡ Bind) × HoldingsTake rows.now holdings.now (node_of to.entry)) }
+{
+    rows.step() == Step::Bind && rows.takes(holdings, to)
 }
