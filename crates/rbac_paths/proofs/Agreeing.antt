@@ -1,5 +1,5 @@
 -- Somebody's paths lead to what allows what is asked for exactly if they are listed among the ways to it.
-use Rattle.std.proofs.Common.{◌≡◌, ◌≢◌, ◌↔◌, ◌⊎◌, ◌∙◌, ◌+◌, ◌<◌, ℕ, zero, suc, List, Bool, Contains, Any, ap, arith, false, inl, inr, refl, subst, sym, true}
+use Rattle.std.proofs.Common.{◌≡◌, ◌≢◌, ◌↔◌, ◌⊎◌, ◌+◌, ◌<◌, ℕ, zero, suc, List, Bool, Contains, Any, ap, arith, false, inl, inr, refl, subst, sym, true}
 use Rattle.std.specs.Str.{bytes_eq}
 use Rattle.std.proofs.lemmas.Bool.{cases_order}
 use Rattle.std.proofs.lemmas.Slice.Eq.{bytes_eq-Decides}

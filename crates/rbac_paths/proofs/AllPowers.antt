@@ -1,5 +1,5 @@
 -- What was found is all powers of a step, each once.
-use Rattle.std.proofs.Common.{◌≡◌, ◌<◌, ℕ, List, [], inl, inr, refl, sym, ◌∙◌, ap, ap₂, subst, arith, Some, None, Option, AllPairs, Contains, map, length, option_map, get_or, slice_get}
+use Rattle.std.proofs.Common.{◌≡◌, ◌<◌, ℕ, List, [], refl, sym, ◌∙◌, ap, ap₂, subst, arith, Some, None, Option, AllPairs, Contains, map, length, option_map, get_or, slice_get}
 use Rattle.std.specs.BTreeMap.{get, IsOrdered}
 use Rattle.std.specs.declared.cmp.Ordering.TheVariants.{Less}
 use Rattle.std.proofs.lemmas.Cmp.{nat_list_cmp_total}

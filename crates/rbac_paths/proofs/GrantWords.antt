@@ -6,8 +6,7 @@ use Rattle.rbac_terms.specs.Text.{Text}
 use Rattle.rbac_terms.specs.Principals.{Who}
 use Rattle.rbac_terms.specs.declared.matching.Rule.{Rule}
 use Rattle.rbac_model.proofs.OwnWords.{any_from}
-use Rattle.rbac_model.specs.Policies.{GrantView, Held, IsPolicy, PolicyView, SourcedRule, sourced_at}
-use Rattle.rbac_model.specs.declared.places.RolePlace.{RolePlace}
+use Rattle.rbac_model.specs.Policies.{GrantView, IsPolicy, PolicyView}
 use Rattle.rbac_paths.specs.Deciding.{AreNumbersOf, GiveHoldings, MatchesStep, SomeRowMatches}
 use Rattle.rbac_paths.specs.Having.{HoldingView}
 use Rattle.rbac_paths.specs.Joints.{TakesByWords}

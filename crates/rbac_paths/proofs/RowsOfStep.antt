@@ -5,7 +5,7 @@ use Rattle.rbac_paths.specs.Having.{HoldingView}
 use Rattle.rbac_paths.specs.Nodes.{NodeView}
 use Rattle.rbac_paths.specs.Rows.{AreOfStep}
 use Rattle.rbac_paths.specs.Steps.{StepRowView, table}
-use Rattle.rbac_paths.specs.Taking.{RowTakes, RuleTakes}
+use Rattle.rbac_paths.specs.Taking.{RowTakes}
 use Rattle.rbac_paths.specs.Told.{HoldingTakes, HoldingsTake}
 use Rattle.rbac_paths.specs.declared.steps.Step.{Step}
 

@@ -1,4 +1,4 @@
-use Rattle.std.proofs.Common.{◌≡◌, ◌∙◌, false, true, List, MatchOption, None, Option, ℕ, get_or, map, subst, sym, take}
+use Rattle.std.proofs.Common.{◌≡◌, ◌∙◌, List, MatchOption, None, Option, ℕ, get_or, map, subst, sym, take}
 use Rattle.std.proofs.lemmas.List.{get_or_default, take_all, take_more}
 use Rattle.std.proofs.lemmas.Bool.{false≢true}
 use Rattle.rbac_ways.specs.Ways.{AreInOrder}

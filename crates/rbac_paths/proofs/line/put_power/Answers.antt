@@ -1,5 +1,4 @@
 use Rattle.std.proofs.Common.{◌≡◌, ◌++◌, ◌∙◌, Option, ap, append_assoc, rules}
-use Rattle.std.specs.Option.{option_copied}
 use Rattle.rbac_terms.proofs.Cases.{on_ok}
 use Rattle.rbac_terms.specs.Text.{Text}
 use Rattle.rbac_text.specs.Choice.{choice_and_tab}

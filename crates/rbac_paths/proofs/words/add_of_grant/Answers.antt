@@ -5,7 +5,6 @@ use Rattle.rbac_model.specs.Sources.{grant_of}
 use Rattle.rbac_paths.specs.Having.{HoldingView}
 use Rattle.rbac_paths.specs.SharedWords.{StepTakesWord}
 use Rattle.rbac_paths.specs.StepMarks.{GrantTakesWord}
-use Rattle.rbac_paths.specs.Told.{grant_holding}
 use Rattle.rbac_paths.proofs.GrantWords.{word_matches}
 use Rattle.rbac_paths.proofs.RuleMarks.{rule_of_grant}
 use Rattle.rbac_paths.proofs.WordsAdded.{adds_each, adds_more, adds_none, adds_same}
