@@ -2,6 +2,7 @@ use Rattle.std.proofs.Common.{◌≡◌, ◌+◌, ◌++◌, ◌∷◌, ◌↔◌
 use Rattle.std.specs.BTreeMap.{get}
 use Rattle.std.specs.BTreeMap.Entry.{map_with_value}
 use Rattle.std.specs.Option.{option_copied, unwrap_or}
+use Rattle.std.proofs.lemmas.List.{take_all}
 use Rattle.std.proofs.lemmas.Option.{slice_get_read}
 use Rattle.rbac_terms.specs.Text.{Text, text_cmp}
 use Rattle.rbac_terms.specs.Granting.{IsSubjectKey}
@@ -43,3 +44,9 @@ loop-place-preserved c =
           (subst (λ (t : Text). IsPutUnless t x old new) same put) c.loop-place.invariant))
       | in_default w ↦ rw w.found-is (adds_nobody c.args.step g (take i items) s c.args.found.now c.loop-place.found (let nobody : (k : Text) → ¬ IsSubjectKey s g.binding.namespace k = rw own at (rw w.in_default.is at key) in nobody) c.loop-place.invariant)
     ])
+
+pub returns : goal.returns
+returns c =
+    let items = c.as_slice-subject-items.result.now in
+    subst (λ (xs : List Subject). AddsPowers c.args.step (grant_of c.args.grant) xs c.args.found.now c.loop-place.found)
+    (take_all c.loop-place.place items c.loop-place-test.false ∙ c.as_slice-subject-items.ensures) c.loop-place.invariant
