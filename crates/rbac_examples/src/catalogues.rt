@@ -58,11 +58,9 @@ fn widgets(rt: &impl Abort, alloc: Global, namespaced: &[bool]) -> Catalogue {
     let mut catalogue = Catalogue::new(alloc);
     for is_namespaced in namespaced {
         let mut entries = Entries::new(alloc);
-        let widgets = Entry {
-            group: word(rt, alloc, "x.io"),
-            namespaced: *is_namespaced,
-            ..entry(rt, alloc, "widgets")
-        };
+        let mut widgets = entry(rt, alloc, "widgets");
+        widgets.group = word(rt, alloc, "x.io");
+        widgets.namespaced = *is_namespaced;
         built(rt, entries.push(widgets));
         built(rt, catalogue.give(entries));
     }

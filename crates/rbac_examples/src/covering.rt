@@ -12,10 +12,9 @@ type Row<'a> = [&'a [&'a str]; 5];
 
 fn rule_with_urls(rt: &impl Abort, alloc: Global, row: &Row<'_>) -> Rule {
     let [verbs, groups, resources, names, urls] = *row;
-    Rule {
-        urls: words(rt, alloc, urls),
-        ..rule(rt, alloc, &[verbs, groups, resources, names])
-    }
+    let mut made = rule(rt, alloc, &[verbs, groups, resources, names]);
+    made.urls = words(rt, alloc, urls);
+    made
 }
 
 const PODS: Row<'static> = [&["get"], &[""], &["pods"], &[], &[]];

@@ -113,10 +113,9 @@ fn ring_role(rt: &impl Abort, alloc: Global, number: u32, next: u32) -> ClusterR
 
 // A plain role of one rule, with the label of the ring's first role.
 fn plain_role(rt: &impl Abort, alloc: Global) -> ClusterRole {
-    ClusterRole {
-        rules: rules(rt, alloc, &[[&["get"], &[""], &["pods"], &[]]]),
-        ..role(rt, alloc, "plain", "r000", None)
-    }
+    let mut plain = role(rt, alloc, "plain", "r000", None);
+    plain.rules = rules(rt, alloc, &[[&["get"], &[""], &["pods"], &[]]]);
+    plain
 }
 
 // A ring of roles whose last one selects the first, and a plain role that it selects too; each role
