@@ -4,7 +4,7 @@ use Rattle.rbac_terms.specs.Text.{Text}
 use Rattle.rbac_terms.specs.Targets.{Resource}
 use Rattle.rbac_model.proofs.LabelSets.{any_push}
 use Rattle.rbac_model.specs.Policies.{Live}
-use Rattle.rbac_paths.specs.Asked.{AllowsAsked, AllowsAskedRow, AllowsRowFor, AreAskedFor, AskedRowView, IsAskedFor}
+use Rattle.rbac_paths.specs.Asked.{AllowsAsked, AllowsAskedRow, AllowsRowFor, AreAskedFor, AskedRowView, RowAsks}
 use Rattle.rbac_paths.specs.Having.{HoldingView}
 use Rattle.rbac_paths.specs.Nodes.{NodeView}
 use Rattle.rbac_paths.specs.Steps.{StepRowView, asked_in}
@@ -66,7 +66,7 @@ module _ (y : NodeView) (rows : List StepRowView) (row : StepRowView) (asked : L
         λ t. elim (there.0 t) [ inl old ↦ here.1 (inl ((are h).1 old)) | inr new ↦ here.1 (inr ((one h).1 new)) ],
       )
 
-  pub asked_same : AreAskedFor rows y asked → (o : Option AskedRowView) → IsAskedFor row y o → ((a : AskedRowView) → ¬ (o ≡ Some a)) → AreAskedFor (rows ++ row ∷ []) y asked
+  pub asked_same : AreAskedFor rows y asked → (o : Option AskedRowView) → RowAsks row y o → ((a : AskedRowView) → ¬ (o ≡ Some a)) → AreAskedFor (rows ++ row ∷ []) y asked
   asked_same are (Some a) is none h = absurd (none a refl)
   asked_same are None is none h =
       let there = any_push (λ r. RowTakes r h.home h.rule y) rows row in (

@@ -59,8 +59,8 @@ abbrev pub AllowsAskedRow : HoldingView → AskedRowView → Type 0
 AllowsAskedRow h a = AllowsAsked a.row a.namespace a.own h
 
 -- the holdings that allow some of the answer are those that take over y by the row; nothing, if none does
-abbrev pub IsAskedFor : StepRowView → NodeView → Option AskedRowView → Type 0
-IsAskedFor r y answer = MatchOption answer
+abbrev pub RowAsks : StepRowView → NodeView → Option AskedRowView → Type 0
+RowAsks r y answer = MatchOption answer
     ((h : HoldingView) → ¬ RowTakes r h.home h.rule y)
     (λ a. (h : HoldingView) → AllowsAskedRow h a ↔ RowTakes r h.home h.rule y)
 

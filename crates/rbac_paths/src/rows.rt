@@ -7,7 +7,7 @@ ghost use Rattle.rbac_terms.specs.Targets.{Resource};
 ghost use Rattle.rbac_terms.specs.Text.{Text};
 ghost use Rattle.rbac_model.specs.Policies.{Live};
 ghost use Rattle.rbac_paths.specs.Asked.{AllowsAsked, AllowsAskedRow, AllowsRowFor, Asks, HasRowNameFor};
-ghost use Rattle.rbac_paths.specs.Asked.{IsAskedFor};
+ghost use Rattle.rbac_paths.specs.Asked.{RowAsks};
 ghost use Rattle.rbac_paths.specs.Nodes.{node_of};
 ghost use Rattle.rbac_paths.specs.Rows.{AddsRow, AreOfStep, HasRowName, HasRowResource, MatchesRow, row_view};
 ghost use Rattle.rbac_paths.specs.Steps.{AllowsRow, CountsIn, asked_in, table};
@@ -163,7 +163,7 @@ impl WordRow {
 
     // The row with what its requests that take over the node ask, if it is over that.
     pub(crate) fn asked_for<'a>(&'a self, node: Node<'a>) -> Option<AskedRow<'a>>
-        ensures { IsAskedFor self.now (node_of node.entry) result }
+        ensures { RowAsks self.now (node_of node.entry) result }
     {
         match self.asked_of(node) {
             Some(asked) => Some(AskedRow {

@@ -1,6 +1,6 @@
 use Rattle.std.proofs.Common.{◌≡◌, ◌+◌, ◌++◌, ◌∷◌, ◌∙◌, [], List, ap, arith, subst, sym, take}
 use Rattle.std.proofs.lemmas.List.{take_all, take_more}
-use Rattle.rbac_paths.specs.Asked.{AreAskedFor, IsAskedFor}
+use Rattle.rbac_paths.specs.Asked.{AreAskedFor, RowAsks}
 use Rattle.rbac_paths.specs.Nodes.{node_of}
 use Rattle.rbac_paths.specs.Steps.{StepRowView}
 use Rattle.rbac_paths.proofs.Taken.{asked_more, asked_same}
@@ -16,7 +16,7 @@ loop-row-preserved c =
     let more : take (i + 1) rows ≡ take i rows ++ row ∷ [] = take_more rows i row c.loop-row-test.true ∙ ap (λ (v : StepRowView). take i rows ++ v ∷ []) (sym c.row-item.is) in
     rw more (elim c.match-asked_for.branch [
       | in-Some+in_ok-push w ↦ rw (w.asked-is, w.in_ok-push.ensures.items)
-          (asked_more y (take i rows) row c.loop-row.asked.items _ c.loop-row.invariant (subst (IsAskedFor row y) w.in-Some.is c.asked_for.ensures))
+          (asked_more y (take i rows) row c.loop-row.asked.items _ c.loop-row.invariant (subst (RowAsks row y) w.in-Some.is c.asked_for.ensures))
       | in_default w ↦ rw w.asked-is
           (asked_same y (take i rows) row c.loop-row.asked.items c.loop-row.invariant c.asked_for.result c.asked_for.ensures w.in_default.not-Some)
     ])
