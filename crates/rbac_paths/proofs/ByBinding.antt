@@ -83,6 +83,10 @@ pub record AreListedBelow (p : PolicyView) (P : ℕ → Type 0) (count : ℕ) (l
   pub len : length lists ≡ length p.held.bindings
   pub each : (n at : ℕ) → Contains (get_or lists at []) n ↔ ((n < count) × IsOfBinding p n at × P n)
 
+-- a binding's list is there
+pub list_there : (p : PolicyView) (n place : ℕ) (lists : List (List ℕ)) → length lists ≡ length p.held.bindings → IsOfBinding p n place → place < length lists
+list_there p n place lists len of = let low = slice_get_within p.held.bindings place of.0.binding of.2 in omega (arith, low, len)
+
 module _ (p : PolicyView) (ok : IsPolicy p) (P : ℕ → Type 0) where
   none_at : (count at n : ℕ) → Contains (get_or (replicate count []) at []) n → ⊥
   none_at count at n is = elim (cases_lt at count) [
@@ -104,7 +108,7 @@ module _ (p : PolicyView) (ok : IsPolicy p) (P : ℕ → Type 0) where
 
   module _ (count : ℕ) (lists : List (List ℕ)) (below : AreListedBelow p P count lists) where
     module _ (place : ℕ) (of : IsOfBinding p count place) where
-      pub list_within : place < length lists
+      list_within : place < length lists
       list_within = let low = slice_get_within p.held.bindings place of.0.binding of.2 in let len = below.len in omega (arith, low, len)
 
       had : List ℕ

@@ -4,29 +4,18 @@ use Rattle.std.proofs.lemmas.List.Elements.{Contains-append_cases, Contains-appe
 use Rattle.std.proofs.lemmas.Option.{same_Some}
 use Rattle.rbac_terms.specs.Text.{Text}
 use Rattle.rbac_terms.specs.Principals.{Who}
-use Rattle.rbac_terms.specs.declared.matching.Rule.{Rule}
 use Rattle.rbac_model.proofs.OwnWords.{any_from}
 use Rattle.rbac_model.specs.Policies.{GrantView, IsPolicy, PolicyView}
-use Rattle.rbac_paths.specs.Deciding.{AreNumbersOf, GiveHoldings, MatchesStep, SomeRowMatches}
+use Rattle.rbac_paths.specs.Deciding.{AreNumbersOf, GiveHoldings}
 use Rattle.rbac_paths.specs.Having.{HoldingView}
 use Rattle.rbac_paths.specs.Joints.{TakesByWords}
 use Rattle.rbac_paths.specs.Nodes.{NodeView, Somebody}
-use Rattle.rbac_paths.specs.Rows.{MatchesRow}
-use Rattle.rbac_paths.specs.SharedWords.{StepTakesWord, TakeWord}
-use Rattle.rbac_paths.specs.StepMarks.{GrantTakesWord}
-use Rattle.rbac_paths.specs.Steps.{table}
+use Rattle.rbac_paths.specs.SharedWords.{GrantTakesWord, StepTakesWord, TakeWord}
 use Rattle.rbac_paths.specs.Told.{grant_holding}
 use Rattle.rbac_paths.specs.declared.steps.Step.{Step}
 use Rattle.rbac_paths.proofs.Mapped.{is_element, one_element}
 use Rattle.rbac_paths.proofs.WhatDecides.{given_decide}
 use Rattle.rbac_paths.proofs.WordsTaken.{takes_by_words}
-
--- a rule that takes a word by a step matches a row of it
-pub word_matches : (home : Option Text) (rule : Rule) (w : Text) (step : Step) → StepTakesWord home rule w step → SomeRowMatches (step ∷ []) rule
-unfolding SomeRowMatches MatchesStep
-word_matches home rule w step a =
-    any_from (MatchesStep rule) (step ∷ []) step (is_element step step refl)
-    (any_from (λ row. (row.step ≡ step) × MatchesRow row rule) table a.1 (a.0, a.2, a.3) (a.4.0, a.4.1.0))
 
 module _ (p : PolicyView) where
   -- ---- what grants with some numbers give
@@ -35,7 +24,7 @@ module _ (p : PolicyView) where
   one_given None = []
   one_given (Some g) = grant_holding g ∷ []
 
-  given : List ℕ → List HoldingView
+  pub given : List ℕ → List HoldingView
   given [] = []
   given (n ∷ ns) = one_given (slice_get p.grants n) ++ given ns
 
@@ -62,7 +51,7 @@ module _ (p : PolicyView) where
       Contains-append_left (one_given (slice_get p.grants m)) (given ns) h (to_one (slice_get p.grants m) h g (subst (λ (k : ℕ). slice_get p.grants k ≡ Some g) (sym e) at) same)
   to_given (m ∷ ns) n (suc k, low, e) h g at same = Contains-append_right (one_given (slice_get p.grants m)) (given ns) h (to_given ns n (k, omega arith, e) h g at same)
 
-  give : (ns : List ℕ) → GiveHoldings p ns (given ns)
+  pub give : (ns : List ℕ) → GiveHoldings p ns (given ns)
   give ns h = (from_given ns h, λ w. to_given ns w.0 w.1 h w.2.0 w.2.1 w.2.2)
 
   -- ---- the words that they take

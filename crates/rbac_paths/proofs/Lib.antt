@@ -27,10 +27,12 @@ pub mod Mapped
 pub mod NodeWords
 pub mod NodesAdded
 pub mod NodesInOrder
+pub mod NotSomebody
 pub mod OnePaths
 pub mod OnePowers
 pub mod OneReason
 pub mod OneWays
+pub mod OtherPlaces
 pub mod Others
 pub mod PathsFound
 pub mod PrincipalsWith
@@ -38,11 +40,12 @@ pub mod Reasons
 pub mod RolePlaces
 pub mod RoleRules
 pub mod RowsOfStep
-pub mod RuleMarks
+pub mod RuleTakeovers
 pub mod RuleWords
 pub mod Scopes
 pub mod SharedWords
 pub mod Taken
+pub mod Takeovers
 pub mod Telling
 pub mod Tracing
 pub mod Untold

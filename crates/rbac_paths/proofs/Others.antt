@@ -6,31 +6,22 @@ use Rattle.std.proofs.lemmas.Option.{same_Some}
 use Rattle.rbac_terms.specs.Matching.{VerbOk}
 use Rattle.rbac_terms.specs.Targets.{Resource}
 use Rattle.rbac_terms.specs.Text.{Text}
-use Rattle.rbac_terms.specs.declared.matching.Rule.{Rule}
 use Rattle.rbac_model.proofs.OwnWords.{any_from}
-use Rattle.rbac_model.specs.Policies.{Live, PolicyView}
-use Rattle.rbac_paths.specs.Deciding.{IsAnyNode}
+use Rattle.rbac_model.specs.Policies.{GrantView, Live, PolicyView}
+use Rattle.rbac_paths.specs.Deciding.{GiveHoldings, IsAnyNode}
 use Rattle.rbac_paths.specs.Having.{HoldingView}
-use Rattle.rbac_paths.specs.Joints.{AreOtherPlaces, AreOthers, AreOverOthers, CountsAt, DecideOn, IsAboutNode, IsNobody, IsOther, IsOverNobody, MatchesOverOthers, MayTakeBy, SomeMayTake, scope_at}
+use Rattle.rbac_paths.specs.Joints.{AreAskedPlaces, AreOthers, AreOthersAt, AreOverOthers, AreScoped, CountsAt, DecideOn, IsAboutNode, IsNobody, IsOther, IsOverNobody, MatchesOverOthers, MayTakeBy, SomeMayTake, scope_at}
 use Rattle.rbac_paths.specs.Nodes.{NodeView, Somebody, ClusterRoleIn, OwnRole, EverythingIn}
-use Rattle.rbac_paths.specs.Rows.{AreOfStep, HasRowResource}
+use Rattle.rbac_paths.specs.Rows.{HasRowResource}
 use Rattle.rbac_paths.specs.Steps.{StepRowView, asked_in, table}
 use Rattle.rbac_paths.specs.Taking.{IsOver, RowTakes, RuleTakes, scope_namespace}
 use Rattle.rbac_paths.specs.TakingOver.{TakesOver}
-use Rattle.rbac_paths.specs.Told.{HoldingTakes, HoldingsTake, IsFirstTold}
+use Rattle.rbac_paths.specs.Told.{HoldingTakes, HoldingsTake, IsFirstTold, grant_holding}
 use Rattle.rbac_paths.specs.declared.steps.Step.{Step}
 use Rattle.rbac_paths.specs.declared.table.Counts.{Counts}
 use Rattle.rbac_paths.specs.declared.table.Counts.TheVariants as counted
 use Rattle.rbac_paths.specs.declared.table.Over.{Over}
 use Rattle.rbac_paths.specs.declared.table.Over.TheVariants as over
-
--- what rows of a step say of a rule is what the table says
-pub may_take : (step : Step) (rows : List StepRowView) → AreOfStep step table rows → (rule : Rule) → Any (MatchesOverOthers rule) rows ↔ MayTakeBy rule step
-unfolding MayTakeBy
-may_take step rows of rule = (
-  λ a. (let there = (of a.1).0 (a.0, a.2, a.3) in any_from (λ row. (row.step ≡ step) × MatchesOverOthers rule row) table a.1 there.0 (there.1, a.4)),
-  λ a. any_from (MatchesOverOthers rule) rows a.1 ((of a.1).1 ((a.0, a.2, a.3), a.4.0)) a.4.1,
-)
 
 -- a row that takes over a role or everything is over roles or everything, and the rule matches it
 pub over_nobody : (o : Over) (counts : Counts) (y : NodeView) (namespace own : Text) → IsNobody y → IsOver o counts y namespace own → IsOverNobody o
@@ -100,6 +91,21 @@ counts_there h y step nobody a =
     let w = a.4.1 in
     at_scope h.home row.counts w.namespace (scope_at y) row.group w.text w.name w.live (over_scope row.over row.counts y w.namespace w.own nobody w.over)
 
+-- everything in the whole cluster, or another node
+whole_or_other : (y : NodeView) → (y ≡ EverythingIn None) ⊎ (y ≡ EverythingIn None → ⊥)
+whole_or_other (Somebody who) = inr (λ e. cc)
+whole_or_other (ClusterRoleIn role scope) = inr (λ e. cc)
+whole_or_other (OwnRole role) = inr (λ e. cc)
+whole_or_other (EverythingIn None) = inl refl
+whole_or_other (EverythingIn (Some namespace)) = inr (λ e. cc)
+
+-- it is taken over only by a holding that counts there
+counts_whole : (p : PolicyView) (steps : List Step) (x : NodeView) (few : List HoldingView) → DecideOn p steps x few IsNobody → (y : NodeView) → IsNobody y → y ≡ EverythingIn None → TakesOver p steps x y → Any (CountsAt None) few
+unfolding HoldingsTake HoldingTakes
+counts_whole p steps x few decide y nobody whole t =
+    let a = (decide t.0 y t.1.among nobody).1 t.1.can in
+    any_from (CountsAt None) few a.1 (a.0, a.2, a.3) (subst (λ (z : NodeView). CountsAt (scope_at z) a.1) whole (counts_there a.1 y t.0 nobody a.4))
+
 -- those of one more holding
 module _ (steps : List Step) (hs : List HoldingView) (i : ℕ) (h : HoldingView) (low : i < length hs) (at : h ≡ get_or hs i h) (few : List HoldingView) (is : AreOverOthers steps (take i hs) few) where
   one_more : take (i + 1) hs ≡ take i hs ++ h ∷ []
@@ -125,6 +131,25 @@ module _ (steps : List Step) (hs : List HoldingView) (i : ℕ) (h : HoldingView)
       | inr same ↦ absurd (none (subst (λ (v : HoldingView). SomeMayTake steps v) (sym same) w.1))
     ],
   ))
+
+-- what the grant with that number gives, if its rule matches a row over roles or everything
+abbrev pub GivesOther : PolicyView → List Step → ℕ → HoldingView → Type 0
+GivesOther p steps n h = (g : GrantView) × (slice_get p.grants n ≡ Some g) × (grant_holding g ≡ h) × SomeMayTake steps h
+
+pub one_given : (p : PolicyView) (steps : List Step) (n : ℕ) (g : GrantView) → slice_get p.grants n ≡ Some g → SomeMayTake steps (grant_holding g) → (h : HoldingView) → GivesOther p steps n h ↔ (h ≡ grant_holding g)
+one_given p steps n g here may h = (
+  λ w. sym (ap grant_holding (same_Some g w.0 (sym here ∙ w.1)) ∙ w.2),
+  λ e. (g, here, sym e, subst (SomeMayTake steps) (sym e) may),
+)
+
+pub none_given : (p : PolicyView) (steps : List Step) (n : ℕ) (g : GrantView) → slice_get p.grants n ≡ Some g → (SomeMayTake steps (grant_holding g) → ⊥) → (h : HoldingView) → GivesOther p steps n h → ⊥
+none_given p steps n g here isnt h w = isnt (subst (SomeMayTake steps) (sym (ap grant_holding (same_Some g w.0 (sym here ∙ w.1)) ∙ w.2)) w.3)
+
+pub given_over : (p : PolicyView) (steps : List Step) (numbers : List ℕ) (hs : List HoldingView) → GiveHoldings p numbers hs → (few : List HoldingView) → ((h : HoldingView) → Contains few h ↔ Any (λ n. GivesOther p steps n h) numbers) → AreOverOthers steps hs few
+given_over p steps numbers hs give few are h = (
+  λ c. (let a = (are h).0 c in ((give h).1 (a.1, (a.0, a.2, a.3), (a.4.0, a.4.1, a.4.2)), a.4.3)),
+  λ w. (let v = (give h).0 w.0 in (are h).1 (any_from (λ n. GivesOther p steps n h) numbers v.0 v.1 (v.2.0, v.2.1, v.2.2, w.1))),
+)
 
 -- of a node's holdings those decide about roles and everything whose rules match a row over such
 pub few_decide : (p : PolicyView) (steps : List Step) (x : NodeView) (hs : List HoldingView) → DecideOn p steps x hs IsAnyNode → (few : List HoldingView)
@@ -162,17 +187,14 @@ module _ (p : PolicyView) (steps : List Step) (x : NodeView) (ys : List NodeView
   )
 
   -- those at some places
-  abbrev pub AreOthersOf : List ℕ → List ℕ → Type 0
-  AreOthersOf places js = (j : ℕ) → Contains js j ↔ (Contains places j × IsOther p steps x ys j)
-
-  pub others_none : (js : List ℕ) → js ≡ [] → AreOthersOf [] js
+  pub others_none : (js : List ℕ) → js ≡ [] → AreOthersAt p steps x ys [] js
   others_none js empty j = (
     λ c. absurd (let low = (subst (λ (ks : List ℕ). Contains ks j) empty c).1 in omega (arith, low)),
     λ w. absurd (let low = w.0.1 in omega (arith, low)),
   )
 
-  module _ (places : List ℕ) (place : ℕ) (y : NodeView) (at : slice_get ys place ≡ Some y) (js : List ℕ) (of : AreOthersOf places js) where
-    pub others_more : IsNobody y → TakesOver p steps x y → AreOthersOf (places ++ place ∷ []) (js ++ place ∷ [])
+  module _ (places : List ℕ) (place : ℕ) (y : NodeView) (at : slice_get ys place ≡ Some y) (js : List ℕ) (of : AreOthersAt p steps x ys places js) where
+    pub others_more : IsNobody y → TakesOver p steps x y → AreOthersAt p steps x ys (places ++ place ∷ []) (js ++ place ∷ [])
     others_more nobody takes j = (
       λ c. elim (Contains-push_cases js place j c) [
         | inl old ↦ (let w = (of j).0 old in (Contains-append_left places (place ∷ []) j w.0, w.1))
@@ -184,7 +206,7 @@ module _ (p : PolicyView) (steps : List Step) (x : NodeView) (ys : List NodeView
       ],
     )
 
-    pub others_same : (TakesOver p steps x y → ⊥) → AreOthersOf (places ++ place ∷ []) js
+    pub others_same : (TakesOver p steps x y → ⊥) → AreOthersAt p steps x ys (places ++ place ∷ []) js
     others_same none j = (
       λ c. (let w = (of j).0 c in (Contains-append_left places (place ∷ []) j w.0, w.1)),
       λ w. elim (Contains-push_cases places place j w.0) [
@@ -196,8 +218,15 @@ module _ (p : PolicyView) (steps : List Step) (x : NodeView) (ys : List NodeView
       ],
     )
 
-  pub others_all : (places js : List ℕ) → AreOtherPlaces ys places → AreOthersOf places js → AreOthers p steps x ys js
-  others_all places js are of j = (
+  -- a node takes over others only at places that are asked
+  pub others_all : (few scoped : List HoldingView) → DecideOn p steps x few IsNobody → AreScoped p steps x scoped → (places js : List ℕ) → AreAskedPlaces ys few scoped places
+      → AreOthersAt p steps x ys places js → AreOthers p steps x ys js
+  others_all few scoped decide in_scopes places js asked of j = (
     λ c. ((of j).0 c).1,
-    λ o. (of j).1 ((are j).1 (o.0, o.1, o.2), o),
-  )
+    λ o. (of j).1 (there o, o),
+  ) where
+    there : IsOther p steps x ys j → Contains places j
+    there (y, at, nobody, t) = elim (whole_or_other y) [
+      | inl whole ↦ asked.in_cluster j y at nobody (ap scope_at whole) (counts_whole p steps x few decide y nobody whole t)
+      | inr other ↦ asked.by_scope j y at nobody (in_scopes y nobody other t)
+    ]

@@ -1,12 +1,10 @@
--- The words that a rule takes by a row are those of its names, or the one for any.
+-- The words that a rule takes are those of its names, or the one for any.
 use Rattle.std.proofs.Common.{◌≡◌, ◌≢◌, ◌↔◌, List, Option, Some, None, Any, Contains, arith, refl, subst, sym}
 use Rattle.rbac_terms.specs.Text.{Text}
 use Rattle.rbac_terms.specs.declared.matching.Rule.{Rule}
 use Rattle.rbac_model.proofs.OwnWords.{any_from}
-use Rattle.rbac_paths.specs.Rows.{AreOfStep, MatchesRow}
-use Rattle.rbac_paths.specs.SharedWords.{IsWordFor, LetsName, StepTakesWord, TakesWord}
-use Rattle.rbac_paths.specs.Steps.{StepRowView, table}
-use Rattle.rbac_paths.specs.declared.steps.Step.{Step}
+use Rattle.rbac_paths.specs.SharedWords.{IsWordFor, LetsName, LetsWord}
+use Rattle.rbac_paths.specs.declared.takeover.Takeover.{Takeover}
 use Rattle.rbac_paths.specs.declared.table.Names.{Names}
 use Rattle.rbac_paths.specs.declared.table.Names.TheVariants as names
 
@@ -21,32 +19,22 @@ module _ (rule : Rule) (n : Text) where
   only_own names.Own differ one = differ refl
   only_own names.Any differ one = elim one [ ]
 
-module _ (row : StepRowView) (home : Option Text) (rule : Rule) where
-  pub not_matching : (MatchesRow row rule → ⊥) → (w : Text) → TakesWord row home rule w → ⊥
-  not_matching none w t = none t.0
+module _ (t : Takeover) (home : Option Text) (rule : Rule) where
+  pub any_name : LetsName t.names rule None → (w : Text) → IsWordFor t.over t.counts home None w ↔ LetsWord t home rule w
+  any_name lets w = (λ word. (None, lets, word), of_any) where
+    of_any : LetsWord t home rule w → IsWordFor t.over t.counts home None w
+    of_any (None, l, word) = word
+    of_any (Some n, l, word) = absurd (no_other rule n t.names lets l)
 
-  pub any_name : MatchesRow row rule → LetsName row.names rule None → (w : Text) → IsWordFor row.over row.counts home None w ↔ TakesWord row home rule w
-  any_name matches lets w = (λ word. (matches, (None, lets, word)), of_any) where
-    of_any : TakesWord row home rule w → IsWordFor row.over row.counts home None w
-    of_any (m, (None, l, word)) = word
-    of_any (m, (Some n, l, word)) = absurd (no_other rule n row.names lets l)
+  pub own_names : t.names ≡ names.Own → (LetsName t.names rule None → ⊥) → (w : Text) → Any (λ n. IsWordFor t.over t.counts home (Some n) w) rule.resource_names ↔ LetsWord t home rule w
+  own_names own none w = (by_name, of_name) where
+    by_name : Any (λ n. IsWordFor t.over t.counts home (Some n) w) rule.resource_names → LetsWord t home rule w
+    by_name (k, n, low, is, word) = (Some n, subst (λ (kind : Names). LetsName kind rule (Some n)) (sym own) (k, low, is), word)
 
-  pub own_names : MatchesRow row rule → row.names ≡ names.Own → (LetsName row.names rule None → ⊥) → (w : Text) → Any (λ n. IsWordFor row.over row.counts home (Some n) w) rule.resource_names ↔ TakesWord row home rule w
-  own_names matches own none w = (by_name, of_name) where
-    by_name : Any (λ n. IsWordFor row.over row.counts home (Some n) w) rule.resource_names → TakesWord row home rule w
-    by_name (k, n, low, is, word) = (matches, (Some n, subst (λ (kind : Names). LetsName kind rule (Some n)) (sym own) (k, low, is), word))
+    of_name : LetsWord t home rule w → Any (λ n. IsWordFor t.over t.counts home (Some n) w) rule.resource_names
+    of_name (None, l, word) = absurd (none l)
+    of_name (Some n, l, word) = any_from (λ n. IsWordFor t.over t.counts home (Some n) w) rule.resource_names n (subst (λ (kind : Names). LetsName kind rule (Some n)) own l) word
 
-    of_name : TakesWord row home rule w → Any (λ n. IsWordFor row.over row.counts home (Some n) w) rule.resource_names
-    of_name (m, (None, l, word)) = absurd (none l)
-    of_name (m, (Some n, l, word)) = any_from (λ n. IsWordFor row.over row.counts home (Some n) w) rule.resource_names n (subst (λ (kind : Names). LetsName kind rule (Some n)) own l) word
-
-  pub no_name : (row.names ≢ names.Own) → (LetsName row.names rule None → ⊥) → (w : Text) → TakesWord row home rule w → ⊥
-  no_name differ none w (m, (None, l, word)) = none l
-  no_name differ none w (m, (Some n, l, word)) = only_own rule n row.names differ l
-
--- what the rows of a step say of a word is what the table says
-pub step_rows : (step : Step) (rows : List StepRowView) → AreOfStep step table rows → (home : Option Text) (rule : Rule) (w : Text) → Any (λ row. TakesWord row home rule w) rows ↔ StepTakesWord home rule w step
-step_rows step rows of home rule w = (
-  λ a. (let there = (of a.1).0 (a.0, a.2, a.3) in any_from (λ row. (row.step ≡ step) × TakesWord row home rule w) table a.1 there.0 (there.1, a.4)),
-  λ a. any_from (λ row. TakesWord row home rule w) rows a.1 ((of a.1).1 ((a.0, a.2, a.3), a.4.0)) a.4.1,
-)
+  pub no_name : (t.names ≢ names.Own) → (LetsName t.names rule None → ⊥) → (w : Text) → LetsWord t home rule w → ⊥
+  no_name differ none w (None, l, word) = none l
+  no_name differ none w (Some n, l, word) = only_own rule n t.names differ l

@@ -155,6 +155,9 @@ decide_about p steps x hs decide y step z among about = decide step z among tt
 -- ---- node by node
 
 module _ (p : PolicyView) (steps : List Step) (ys : List NodeView) where
+  pub numbers_none : (lists : List (List ℕ)) → lists ≡ [] → AreNumbers p steps ys 0 lists
+  numbers_none lists empty = record { len = ap length empty; each = λ k y low at. absurd (omega (arith, low)) }
+
   pub numbers_more : (count : ℕ) (lists : List (List ℕ)) (numbers : List ℕ) → AreNumbers p steps ys count lists → ((y : NodeView) → slice_get ys count ≡ Some y → AreNumbersOf p steps y numbers) → AreNumbers p steps ys (count + 1) (lists ++ numbers ∷ [])
   numbers_more count lists numbers are of = record {
     len = length_push lists numbers ∙ ap (λ (n : ℕ). n + 1) are.len;

@@ -1,12 +1,10 @@
 -- Which grants and holdings decide what a node takes over by some steps: those whose rules match a row of
 -- the table.
-use Rattle.std.specs.Prelude.{◌≡◌, ◌↔◌, ◌<◌, ◌≤◌, ℕ, Bool, IsTrue, List, [], Option, Some, Any, Contains, MatchOption}
-use Rattle.std.specs.Prelude.{false, length, slice_get, slice_index_or}
+use Rattle.std.specs.Prelude.{◌≡◌, ◌↔◌, ◌<◌, ◌≤◌, ℕ, List, [], Option, Some, Any, Contains, MatchOption}
+use Rattle.std.specs.Prelude.{length, slice_get, slice_index_or}
 use Rattle.rbac_terms.specs.Principals.{Who}
 use Rattle.rbac_terms.specs.declared.matching.Rule.{Rule}
-use Rattle.rbac_model.specs.Policies.{GrantView, Held, IsOfBinding, PolicyView, SourcedRule, sourced_at}
-use Rattle.rbac_model.specs.declared.places.RolePlace.{RolePlace}
-use Rattle.rbac_model.specs.declared.places.RolePlace.TheVariants.{RoleAt, ClusterRoleAt}
+use Rattle.rbac_model.specs.Policies.{GrantView, IsOfBinding, PolicyView}
 use Rattle.rbac_subjects.specs.Bound.{IsNamedBy}
 use Rattle.rbac_paths.specs.Having.{HoldingView}
 use Rattle.rbac_paths.specs.Nodes.{NodeView, Somebody, ClusterRoleIn, OwnRole, EverythingIn}
@@ -22,26 +20,6 @@ MatchesStep rule step = Any (λ row. (row.step ≡ step) × MatchesRow row rule)
 -- the rule matches some row of these steps
 unfoldable pub SomeRowMatches : List Step → Rule → Type 0
 SomeRowMatches steps rule = Any (MatchesStep rule) steps
-
--- exactly those of these rules are marked that do
-abbrev pub MarkRules : List Step → List Rule → List Bool → Type 0
-MarkRules steps rules marks = (i : ℕ) (rule : Rule) → slice_get rules i ≡ Some rule
-    → IsTrue (slice_index_or marks i false) ↔ SomeRowMatches steps rule
-
--- for each role of each kind, a mark for each of its rules
-pub record MarksView : Type 0 where
-  pub roles : List (List Bool)
-  pub cluster_roles : List (List Bool)
-
--- the marks of the rules of the role at that place; none past the last
-abbrev pub marks_at : MarksView → RolePlace → List Bool
-marks_at m (RoleAt at) = slice_index_or m.roles at []
-marks_at m (ClusterRoleAt at) = slice_index_or m.cluster_roles at []
-
--- exactly those rules of roles are marked that match some row of these steps
-abbrev pub MarkMatching : Held → List Step → MarksView → Type 0
-MarkMatching h steps m = (role : RolePlace) (i : ℕ) (r : SourcedRule) → sourced_at h role i ≡ Some r
-    → IsTrue (slice_index_or (marks_at m role) i false) ↔ SomeRowMatches steps r.rule
 
 -- the rule of the grant with that number does
 abbrev pub IsTakingAt : PolicyView → List Step → ℕ → Type 0

@@ -1,16 +1,17 @@
 -- How the graph of nodes is joined: principals by the words that they share, and other nodes one by one.
-use Rattle.std.specs.Prelude.{◌≡◌, ◌↔◌, ◌⊎◌, ℕ, ◌<◌, List, [], Option, None, Some, Any, Contains, length, slice_get}
-use Rattle.std.specs.Prelude.{slice_index_or}
+use Rattle.std.specs.Prelude.{◌≡◌, ◌↔◌, ◌⊎◌, ℕ, ◌<◌, List, [], ◌∷◌, Option, None, Some, All, Any, Contains, length}
+use Rattle.std.specs.Prelude.{slice_get, slice_index_or}
 use Rattle.rbac_terms.specs.Text.{Text}
 use Rattle.rbac_terms.specs.Principals.{Who}
 use Rattle.rbac_terms.specs.declared.matching.Rule.{Rule}
 use Rattle.rbac_model.specs.Policies.{PolicyView}
+use Rattle.rbac_ways.specs.Joining.{ByWordView, HasUnder}
 use Rattle.rbac_paths.specs.Having.{HoldingView}
 use Rattle.rbac_paths.specs.Nodes.{NodeView, Somebody, ClusterRoleIn, OwnRole, EverythingIn}
 use Rattle.rbac_paths.specs.Rows.{MatchesRow}
 use Rattle.rbac_paths.specs.SharedWords.{AreHadBy}
 use Rattle.rbac_paths.specs.Steps.{StepRowView, table}
-use Rattle.rbac_paths.specs.Taking.{CanTakeOver}
+use Rattle.rbac_paths.specs.Taking.{CanTakeOver, scope_namespace}
 use Rattle.rbac_paths.specs.TakingOver.{TakesOver}
 use Rattle.rbac_paths.specs.Told.{HoldingsTake}
 use Rattle.rbac_paths.specs.Tracing.{IsAt}
@@ -41,6 +42,11 @@ IsOther p steps x ys j = (y : NodeView) × (slice_get ys j ≡ Some y) × IsNobo
 -- exactly those places
 abbrev pub AreOthers : PolicyView → List Step → NodeView → List NodeView → List ℕ → Type 0
 AreOthers p steps x ys js = (j : ℕ) → Contains js j ↔ IsOther p steps x ys j
+
+-- exactly those that are among some places
+abbrev pub AreOthersAt : PolicyView → List Step → NodeView → List NodeView → List ℕ → List ℕ → Type 0
+AreOthersAt p steps x ys places js = (j : ℕ) → Contains js j
+    ↔ (Contains places j × IsOther p steps x ys j)
 
 -- no user and no group is taken over
 abbrev pub IsOverNobody : Over → Type 0
@@ -75,6 +81,29 @@ scope_at (ClusterRoleIn role scope) = scope
 scope_at (OwnRole role) = Some role.namespace
 scope_at (EverythingIn scope) = scope
 
+-- the word for where a role is, or everything: the namespace, or the empty text in the whole cluster
+abbrev pub scope_words : NodeView → List Text
+scope_words (Somebody who) = []
+scope_words (ClusterRoleIn role scope) = scope_namespace scope ∷ []
+scope_words (OwnRole role) = role.namespace ∷ []
+scope_words (EverythingIn scope) = scope_namespace scope ∷ []
+
+-- those words of the first nodes, as many as that
+abbrev pub AreScopeWords : List NodeView → ℕ → List (List Text) → Type 0
+AreScopeWords ys count all = (length all ≡ count) × ((k : ℕ) (y : NodeView) → k < count
+    → slice_get ys k ≡ Some y → slice_index_or all k [] ≡ scope_words y)
+
+-- the places of roles and everything: all, and those of each scope
+pub record OthersView : Type 0 where
+  pub places : List ℕ
+  pub by_scope : ByWordView
+
+-- exactly those of these nodes
+pub record AreAmongOthers (ys : List NodeView) (o : OthersView) : Type 0 where
+  pub places : AreOtherPlaces ys o.places
+  pub by_scope : (w : Text) (j : ℕ) → HasUnder o.by_scope w j
+      ↔ IsAt (λ y. Contains (scope_words y) w) ys j
+
 -- a rule that counts there, or in the whole cluster, counts in the scope
 abbrev pub CountsAt : Option Text → HoldingView → Type 0
 CountsAt scope h = (h.home ≡ None) ⊎ (h.home ≡ scope)
@@ -83,6 +112,16 @@ CountsAt scope h = (h.home ≡ None) ⊎ (h.home ≡ scope)
 abbrev pub AreScoped : PolicyView → List Step → NodeView → List HoldingView → Type 0
 AreScoped p steps x hs = (y : NodeView) → IsNobody y → ¬ (y ≡ EverythingIn None) → TakesOver p steps x y
     → Any (CountsAt (scope_at y)) hs
+
+-- places of roles and everything, among them each where one of the scoped holdings counts, and, if one
+-- of the few counts in the whole cluster, each in the cluster
+pub record AreAskedPlaces (ys : List NodeView) (few scoped : List HoldingView) (places : List ℕ)
+    : Type 0 where
+  pub others : All (IsAt IsNobody ys) places
+  pub by_scope : (j : ℕ) (y : NodeView) → slice_get ys j ≡ Some y → IsNobody y
+      → Any (CountsAt (scope_at y)) scoped → Contains places j
+  pub in_cluster : (j : ℕ) (y : NodeView) → slice_get ys j ≡ Some y → IsNobody y → scope_at y ≡ None
+      → Any (CountsAt None) few → Contains places j
 
 -- of the nodes that this is about, these holdings take over by one of the steps what x takes over
 abbrev pub DecideOn : PolicyView → List Step → NodeView → List HoldingView → (NodeView → Type 0)

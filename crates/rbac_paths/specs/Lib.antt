@@ -19,8 +19,8 @@ pub mod Principals
 pub mod Reasons
 pub mod Rows
 pub mod SharedWords
-pub mod StepMarks
 pub mod Steps
+pub mod Takeovers
 pub mod Taking
 pub mod TakingOver
 pub mod Telling

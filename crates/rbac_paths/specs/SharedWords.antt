@@ -1,15 +1,17 @@
 -- The words by which users and groups can be had, and those that rules take: a rule lets one take over
 -- somebody exactly if it takes a word by which they can be had (own).
 use Rattle.std.specs.Prelude.{◌≡◌, ◌⊎◌, ◌↔◌, ℕ, List, [], ◌∷◌, ◌++◌, Option, Some, None}
-use Rattle.std.specs.Prelude.{Any, Contains, codes}
+use Rattle.std.specs.Prelude.{Any, Contains, codes, slice_get}
 use Rattle.rbac_terms.specs.Text.{Text}
 use Rattle.rbac_terms.specs.Principals.{Who, AsUser, AsMember, IsPart, account_user}
 use Rattle.rbac_terms.specs.Matching.{NameMatches}
 use Rattle.rbac_terms.specs.declared.matching.Rule.{Rule}
+use Rattle.rbac_model.specs.Policies.{GrantView, PolicyView}
 use Rattle.rbac_paths.specs.Having.{HoldingView}
 use Rattle.rbac_paths.specs.Nodes.{IsAccountNamed}
 use Rattle.rbac_paths.specs.Rows.{MatchesRow}
 use Rattle.rbac_paths.specs.Steps.{StepRowView, table}
+use Rattle.rbac_paths.specs.Takeovers.{takeover_of}
 use Rattle.rbac_paths.specs.declared.steps.Step.{Step}
 use Rattle.rbac_paths.specs.declared.table.Counts.{Counts}
 use Rattle.rbac_paths.specs.declared.table.Counts.TheVariants as counted
@@ -17,6 +19,7 @@ use Rattle.rbac_paths.specs.declared.table.Names.{Names}
 use Rattle.rbac_paths.specs.declared.table.Names.TheVariants as names
 use Rattle.rbac_paths.specs.declared.table.Over.{Over}
 use Rattle.rbac_paths.specs.declared.table.Over.TheVariants as over
+use Rattle.rbac_paths.specs.declared.takeover.Takeover.{Takeover}
 
 -- any user who is no service account, and that user
 abbrev pub any_user : Text
@@ -86,15 +89,18 @@ IsWordFor over.Accounts counted.InNamespaces (Some home) (Some name) w =
     (w ≡ that_account (account_user home name)) × IsPart home × IsPart name
 IsWordFor _ counts home name w = ⊥
 
+-- a rule by which that is taken over takes the word where a binding in that namespace, or in none, is live
+abbrev pub LetsWord : Takeover → Option Text → Rule → Text → Type 0
+LetsWord t home rule w = (name : Option Text) × LetsName t.names rule name
+    × IsWordFor t.over t.counts home name w
+
 -- a rule takes the word by the row where a binding in that namespace, or in none, is live
 abbrev pub TakesWord : StepRowView → Option Text → Rule → Text → Type 0
-TakesWord row home rule w = MatchesRow row rule
-    × ((name : Option Text) × LetsName row.names rule name
-    × IsWordFor row.over row.counts home name w)
+TakesWord row home rule w = MatchesRow row rule × LetsWord (takeover_of row) home rule w
 
--- new has what old has, and the words for which this holds
-abbrev pub AddsWords : (Text → Type 0) → List Text → List Text → Type 0
-AddsWords Is old new = (w : Text) → Contains new w ↔ (Contains old w ⊎ Is w)
+-- new has what old has, and all for which this holds
+abbrev pub AddsWhere : {X : Type 0} → (X → Type 0) → List X → List X → Type 0
+AddsWhere {X} Is old new = (x : X) → Contains new x ↔ (Contains old x ⊎ Is x)
 
 -- a rule takes the word by some row of the step where a binding in that namespace, or in none, is live
 abbrev pub StepTakesWord : Option Text → Rule → Text → Step → Type 0
@@ -103,3 +109,8 @@ StepTakesWord home rule w step = Any (λ row. (row.step ≡ step) × TakesWord r
 -- these holdings take the word by some of these steps
 abbrev pub TakeWord : List Step → List HoldingView → Text → Type 0
 TakeWord steps hs w = Any (λ h. Any (StepTakesWord h.home h.rule w) steps) hs
+
+-- the grant with that number takes the word by some of these steps
+abbrev pub GrantTakesWord : PolicyView → List Step → Text → ℕ → Type 0
+GrantTakesWord p steps w n = (g : GrantView) × (slice_get p.grants n ≡ Some g)
+    × Any (StepTakesWord g.binding.namespace g.rule.rule w) steps

@@ -21,7 +21,7 @@ ghost use Rattle.rbac_paths.specs.Tracing.{AreLinked, ArePathsAt, HasKeyAt, HasK
 ghost use Rattle.rbac_paths.specs.Tracing.{IsPathAt, IsUnled};
 
 use crate::bound_names::bound_names;
-use crate::deciding::{deciding_holdings, numbers_of_nodes};
+use crate::deciding::deciding_holdings;
 use crate::graph::graph_of;
 use crate::holding::rule_of_all;
 use crate::listed::listed_at;
@@ -100,29 +100,16 @@ pub fn paths<'p>(
         ArePathsOf policy.now principals.now steps.now who.now found.items) }
 {
     let rows = rows_of_steps(alloc, steps)?;
+    let rows = rows.as_slice();
     let all = principals_with(alloc, principals, who)?;
     let names = bound_names(alloc, policy)?;
     let nodes = nodes_of(alloc, policy, all.as_slice(), names.as_slice())?;
-    let numbers = numbers_of_nodes(alloc, policy, index, rows.as_slice(), nodes.as_slice())?;
-    let graph = graph_of(
-        alloc,
-        policy,
-        index,
-        rows.as_slice(),
-        nodes.as_slice(),
-        numbers.as_slice(),
-    )?;
-    let starts = places_of(alloc, nodes.as_slice(), who)?;
-    let reached = shortest_ways(alloc, &graph, starts.as_slice())?;
-    paths_by(
-        alloc,
-        policy,
-        index,
-        rows.as_slice(),
-        nodes.as_slice(),
-        numbers.as_slice(),
-        &reached,
-    )
+    let nodes = nodes.as_slice();
+    let made = graph_of(alloc, policy, index, rows, nodes)?;
+    let starts = places_of(alloc, nodes, who)?;
+    let reached = shortest_ways(alloc, &made.graph, starts.as_slice())?;
+    let numbers = made.numbers.as_slice();
+    paths_by(alloc, policy, index, rows, nodes, numbers, &reached)
 }
 
 // The places of those among these nodes that have somebody's key.

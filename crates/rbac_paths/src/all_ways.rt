@@ -25,7 +25,6 @@ use crate::aim::Aim;
 use crate::all_paths::last_step;
 use crate::allowed::places_of_allowing;
 use crate::bound_names::bound_names;
-use crate::deciding::numbers_of_nodes;
 use crate::graph::graph_of;
 use crate::holding::rule_of_all;
 use crate::listed::listed_at;
@@ -114,14 +113,13 @@ pub fn ways_to<'p>(
     let names = bound_names(alloc, policy)?;
     let nodes = nodes_of(alloc, policy, all.as_slice(), names.as_slice())?;
     let nodes = nodes.as_slice();
-    let numbers = numbers_of_nodes(alloc, policy, index, rows, nodes)?;
-    let numbers = numbers.as_slice();
-    let graph = graph_of(alloc, policy, index, rows, nodes, numbers)?;
+    let made = graph_of(alloc, policy, index, rows, nodes)?;
     let starts = places_of_somebody(alloc, nodes)?;
-    let come = shortest_ways(alloc, &graph, starts.as_slice())?;
+    let come = shortest_ways(alloc, &made.graph, starts.as_slice())?;
     let ends = places_of_allowing(alloc, policy, index, nodes, access)?;
-    let back = graph.turned(alloc)?;
+    let back = made.graph.turned(alloc)?;
     let reached = shortest_ways(alloc, &back, ends.as_slice())?;
+    let numbers = made.numbers.as_slice();
     let come = come.stops.as_slice();
     ways_by(
         alloc, policy, index, rows, access, nodes, numbers, come, &reached,

@@ -6,7 +6,7 @@ ghost use Rattle.rbac_terms.specs.Text.{Text};
 ghost use Rattle.rbac_model.specs.Policies.{IsPolicy};
 ghost use Rattle.rbac_paths.specs.BoundNames.{AreBoundNames, BindsNamed};
 ghost use Rattle.rbac_paths.specs.Rows.{AreOfStep, MatchesRow};
-ghost use Rattle.rbac_paths.specs.SharedWords.{AddsWords};
+ghost use Rattle.rbac_paths.specs.SharedWords.{AddsWhere};
 ghost use Rattle.rbac_paths.specs.Steps.{table};
 ghost use Rattle.rbac_paths.specs.declared.steps.Step.TheVariants.{Bind};
 
@@ -37,7 +37,7 @@ pub(crate) fn bound_names(alloc: Global, policy: &Policy) -> Result<Vec<Word>, A
 // Adds the names of those of these rules that let one bind roles.
 fn add_names(rows: &[WordRow], rules: &[Rule], names: &mut Vec<Word>) -> Result<(), AllocError>
     requires { AreOfStep Bind table rows.now }
-    ensures { OnOk result (AddsWords (λ name. Any (λ rule. BindsNamed rule name) rules.now)
+    ensures { OnOk result (AddsWhere (λ name. Any (λ rule. BindsNamed rule name) rules.now)
         names.old.items names.new.items) }
 {
     for rule in rules {
@@ -49,7 +49,7 @@ fn add_names(rows: &[WordRow], rules: &[Rule], names: &mut Vec<Word>) -> Result<
 // Adds the names of the rule, if it lets one bind roles.
 fn add_of_rule(rows: &[WordRow], rule: &Rule, names: &mut Vec<Word>) -> Result<(), AllocError>
     requires { AreOfStep Bind table rows.now }
-    ensures { OnOk result (AddsWords (BindsNamed rule.now) names.old.items names.new.items) }
+    ensures { OnOk result (AddsWhere (BindsNamed rule.now) names.old.items names.new.items) }
 {
     if matches_some(rows, rule) {
         names.extend_with_clones(rule.resource_names.as_slice())?;

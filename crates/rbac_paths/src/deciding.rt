@@ -9,35 +9,36 @@ ghost use Rattle.rbac_paths.specs.Deciding.{GiveHoldings, IsAnyNode};
 ghost use Rattle.rbac_paths.specs.Having.{rule_of_all};
 ghost use Rattle.rbac_paths.specs.Joints.{DecideOn};
 ghost use Rattle.rbac_paths.specs.Nodes.{node_of};
+ghost use Rattle.rbac_paths.specs.Takeovers.{HaveTakeovers};
 ghost use Rattle.rbac_paths.specs.Told.{HasItsRole};
 ghost use Rattle.rbac_paths.specs.declared.steps.Step.{Step};
 
 use crate::holding::{Holding, holdings_of};
 use crate::listed::listed_at;
 use crate::node::Node;
-use crate::rule_marks::RuleMarks;
-use crate::told::StepRows;
+use crate::rule_takeovers::RuleTakeovers;
 use rbac_model::Policy;
 use rbac_subjects::SubjectIndex;
 use rbac_terms::{Items, Principal, Rule};
 use std::alloc::{AllocError, Global};
 
 /// For each of these nodes that is somebody, the numbers of the grants of bindings that name them whose
-/// rules match some row of these steps, in any order; one may be there more than once. The other nodes
-/// have none.
+/// rules match some row of some steps, in any order; one may be there more than once. The other nodes
+/// have none. What the rules of roles take over by these steps is given.
 pub(crate) fn numbers_of_nodes(
     alloc: Global,
     policy: &Policy,
     index: &SubjectIndex<'_>,
-    steps: &[StepRows],
+    takeovers: &RuleTakeovers,
     nodes: &[Node<'_>],
 ) -> Result<Vec<Items<u32>>, AllocError>
     requires policy { IsPolicy policy.now }
     requires index { index.now ≡ policy.now }
-    ensures { IfOk result (λ lists.
-        AreNumbers policy.now steps.now (map node_of nodes.now) (length nodes.now) lists.items) }
+    ensures { (steps : List Step) → HaveTakeovers policy.now.held steps takeovers.now
+        → IfOk result (λ lists.
+        AreNumbers policy.now steps (map node_of nodes.now) (length nodes.now) lists.items) }
 {
-    let grants = taking_grants(alloc, policy, steps)?;
+    let grants = taking_grants(alloc, policy, takeovers)?;
     let mut all = Vec::with_capacity(alloc, nodes.len())?;
     for node in nodes {
         all.push(numbers_of_node(alloc, index, grants.as_slice(), *node)?)?;
@@ -81,20 +82,20 @@ fn numbers_of_somebody(
     Ok(Items::from_vec(numbers))
 }
 
-// For each binding, the numbers of its grants whose rules match some row of these steps.
+// For each binding, the numbers of its grants whose rules take over something.
 fn taking_grants(
     alloc: Global,
     policy: &Policy,
-    steps: &[StepRows],
+    takeovers: &RuleTakeovers,
 ) -> Result<Vec<Items<u32>>, AllocError>
     requires { IsPolicy policy.now }
-    ensures { IfOk result (λ lists. AreTakingGrants policy.now steps.now lists.items) }
+    ensures { (steps : List Step) → HaveTakeovers policy.now.held steps takeovers.now
+        → IfOk result (λ lists. AreTakingGrants policy.now steps lists.items) }
 {
-    let marks = RuleMarks::of_matching(alloc, policy.objects(), steps)?;
     let mut lists = no_numbers(alloc, policy.bindings().len())?;
     for no in 0..policy.len() {
         let at = policy.place(no);
-        if marks.has(at.role, at.rule) {
+        if !takeovers.of_grant(at).is_empty() {
             lists[at.binding].push(no)?;
         }
     }

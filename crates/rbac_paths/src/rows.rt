@@ -11,12 +11,14 @@ ghost use Rattle.rbac_paths.specs.Asked.{RowAsks};
 ghost use Rattle.rbac_paths.specs.Nodes.{node_of};
 ghost use Rattle.rbac_paths.specs.Rows.{AddsRow, AreOfStep, HasRowName, HasRowResource, MatchesRow, row_view};
 ghost use Rattle.rbac_paths.specs.Steps.{AllowsRow, CountsIn, asked_in, table};
+ghost use Rattle.rbac_paths.specs.Takeovers.{takeover_of};
 ghost use Rattle.rbac_paths.specs.Taking.{IsOver, RowTakes};
 
 use crate::holding::Holding;
 use crate::node::Node;
 use crate::steps::Step;
 use crate::table::{Counts, Names, Over, Row, TABLE};
+use crate::takeover::Takeover;
 use crate::taking::{
     Asked, for_account, for_cluster_role, for_everything, for_group, for_role, for_user,
 };
@@ -27,12 +29,12 @@ use std::marker::Model;
 /// A row of the table, its texts as words.
 pub(crate) struct WordRow {
     step: Step,
-    pub(crate) names: Names,
-    pub(crate) counts: Counts,
+    names: Names,
+    counts: Counts,
     verbs: Words,
     group: Word,
     resources: Words,
-    pub(crate) over: Over,
+    over: Over,
 }
 
 impl Drop for WordRow {
@@ -103,6 +105,17 @@ impl WordRow {
             resources: words_of(alloc, row.resources)?,
             over: row.over,
         })
+    }
+
+    // What is taken over by the row, and where and for which names that counts.
+    pub(crate) fn takeover(&self) -> Takeover
+        ensures { result ≡ takeover_of self.now }
+    {
+        Takeover {
+            names: self.names,
+            counts: self.counts,
+            over: self.over,
+        }
     }
 
     // Whether the row counts where a binding in this namespace, or in none, is live.

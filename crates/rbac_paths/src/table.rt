@@ -3,7 +3,7 @@
 use crate::steps::Step;
 
 /// Which object names the requests of a row have.
-#[derive(Clone, Copy, Drop)]
+#[derive(Clone, Copy, PartialEq, Eq, Drop)]
 pub(crate) enum Names {
     /// None: a rule that is limited to names doesn't count.
     None,
@@ -14,7 +14,7 @@ pub(crate) enum Names {
 }
 
 /// What a row takes over.
-#[derive(Clone, Copy, Drop)]
+#[derive(Clone, Copy, PartialEq, Eq, Drop)]
 pub(crate) enum Over {
     /// Users, but for service accounts.
     Users,

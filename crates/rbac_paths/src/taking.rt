@@ -113,7 +113,7 @@ pub(crate) fn for_role(node: Node<'_>) -> Option<Asked<'_>>
 }
 
 // The namespace that stands for a scope; the empty one stands for the whole cluster.
-fn scope_namespace(scope: Option<&Word>) -> &[u8]
+pub(crate) fn scope_namespace(scope: Option<&Word>) -> &[u8]
     ensures { result.now ≡ scope_namespace (option_copied scope.entry) }
 {
     match scope {

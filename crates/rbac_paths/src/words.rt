@@ -1,21 +1,24 @@
 //! The words by which users and groups can be had, and those that rules take: each has a mark that
 //! says what it is about, and then a namespace, a name or nothing.
 
-ghost use Rattle.std.specs.Prelude.{◌≡◌, ◌<◌, ◌↔◌, ◌∷◌, All, Any, Contains, IfOk, IsTrue, MatchOption, None};
-ghost use Rattle.std.specs.Prelude.{OnOk, Some, length, map};
+ghost use Rattle.std.specs.Prelude.{◌≡◌, ◌<◌, ◌↔◌, ◌∷◌, All, Any, Contains, IfOk, IsTrue, List, MatchOption};
+ghost use Rattle.std.specs.Prelude.{None, OnOk, Some, length, map};
 ghost use Rattle.std.specs.Option.{option_copied};
 ghost use Rattle.rbac_terms.specs.Principals.{IsPart};
 ghost use Rattle.rbac_terms.specs.Text.{Text};
-ghost use Rattle.rbac_paths.specs.SharedWords.{AddsWords, AreHadBy, IsWordFor, LetsName};
-ghost use Rattle.rbac_paths.specs.SharedWords.{StepTakesWord, TakeWord, TakesWord, chosen_word};
-ghost use Rattle.rbac_paths.specs.StepMarks.{GrantTakesWord, MarkEach};
+ghost use Rattle.rbac_paths.specs.SharedWords.{AddsWhere, AreHadBy, GrantTakesWord, IsWordFor};
+ghost use Rattle.rbac_paths.specs.SharedWords.{LetsName, LetsWord, StepTakesWord, TakeWord};
+ghost use Rattle.rbac_paths.specs.SharedWords.{chosen_word};
+ghost use Rattle.rbac_paths.specs.Takeovers.{HaveTakeovers};
 ghost use Rattle.rbac_paths.specs.declared.table.Counts.TheVariants as counted;
+ghost use Rattle.rbac_paths.specs.declared.steps.Step.{Step};
 ghost use Rattle.rbac_paths.specs.declared.table.Over.TheVariants as over;
 
 use crate::holding::Holding;
-use crate::rows::{WordRow, has_name};
-use crate::rule_marks::{RuleMarks, has_at};
+use crate::rows::has_name;
+use crate::rule_takeovers::RuleTakeovers;
 use crate::table::{Counts, Names, Over};
+use crate::takeover::{Takeover, takeovers_of};
 use crate::taking::{account_parts, is_user};
 use crate::told::StepRows;
 use rbac_model::Policy;
@@ -103,49 +106,39 @@ pub(crate) fn taken_words(
 }
 
 /// The words that the grants with these numbers take by these steps, in any order; one may be there
-/// more than once. A rule is asked only by the rows of steps for which it is marked: most are marked
-/// for one, and many grants have the same rule.
+/// more than once. What the rules of roles take over is given.
 pub(crate) fn words_of_grants(
     alloc: Global,
     policy: &Policy,
-    steps: &[StepRows],
-    marks: &[RuleMarks],
+    takeovers: &RuleTakeovers,
     numbers: &[u32],
 ) -> Result<Words, AllocError>
-    requires marks { MarkEach policy.now.held steps.now marks.now }
     requires within { All (λ n. n < length policy.now.grants) numbers.now }
-    ensures { IfOk result (λ ws. (w : Text) → Contains ws w
-        ↔ Any (GrantTakesWord policy.now steps.now w) numbers.now) }
+    ensures { (steps : List Step) → HaveTakeovers policy.now.held steps takeovers.now
+        → IfOk result (λ ws. (w : Text) → Contains ws w
+        ↔ Any (GrantTakesWord policy.now steps w) numbers.now) }
 {
     let mut words = Words::new(alloc);
     for no in numbers {
-        add_of_grant(alloc, policy, steps, marks, *no, &mut words)?;
+        add_of_grant(alloc, policy, takeovers, *no, &mut words)?;
     }
     Ok(words)
 }
 
-// Adds the words that the grant with this number takes by these steps.
+// Adds the words that the grant with this number takes.
 fn add_of_grant(
     alloc: Global,
     policy: &Policy,
-    steps: &[StepRows],
-    marks: &[RuleMarks],
+    takeovers: &RuleTakeovers,
     no: u32,
     words: &mut Words,
 ) -> Result<(), AllocError>
-    requires marks { MarkEach policy.now.held steps.now marks.now }
-    requires within { no < length policy.now.grants }
-    ensures { OnOk result
-        (AddsWords (λ w. GrantTakesWord policy.now steps.now w no) words.old words.new) }
+    requires { no < length policy.now.grants }
+    ensures { (steps : List Step) → HaveTakeovers policy.now.held steps takeovers.now
+        → OnOk result (AddsWhere (λ w. GrantTakesWord policy.now steps w no) words.old words.new) }
 {
-    let at = policy.place(no);
     let held = Holding::by(policy.grant(no));
-    for (place, step) in steps.iter().enumerate() {
-        if has_at(marks, place, at) {
-            add_of_step(alloc, step, &held, words)?;
-        }
-    }
-    Ok(())
+    add_of_takeovers(alloc, takeovers.of_grant(policy.place(no)), &held, words)
 }
 
 // Adds the words that a holding takes by these steps.
@@ -155,34 +148,33 @@ fn add_of_holding(
     held: &Holding<'_>,
     words: &mut Words,
 ) -> Result<(), AllocError>
-    ensures { OnOk result (AddsWords
+    ensures { OnOk result (AddsWhere
         (λ w. Any (StepTakesWord held.now.home held.now.rule w) steps.now) words.old words.new) }
 {
-    for step in steps {
-        add_of_step(alloc, step, held, words)?;
-    }
-    Ok(())
+    let takeovers = takeovers_of(alloc, steps, held.rule)?;
+    add_of_takeovers(alloc, takeovers.as_slice(), held, words)
 }
 
-// Adds the words that a holding takes by a step.
-fn add_of_step(
+// Adds the words that a holding takes whose rule takes over these.
+fn add_of_takeovers(
     alloc: Global,
-    step: &StepRows,
+    takeovers: &[Takeover],
     held: &Holding<'_>,
     words: &mut Words,
 ) -> Result<(), AllocError>
-    ensures { OnOk result (AddsWords
-        (λ w. StepTakesWord held.now.home held.now.rule w step.now) words.old words.new) }
+    ensures { OnOk result (AddsWhere
+        (λ w. Any (λ t. LetsWord t held.now.home held.now.rule w) takeovers.now)
+        words.old words.new) }
 {
-    for row in step.rows() {
-        row.add_words(alloc, held.home, held.rule, words)?;
+    for takeover in takeovers {
+        takeover.add_words(alloc, held.home, held.rule, words)?;
     }
     Ok(())
 }
 
-impl WordRow {
-    // Adds the words that a rule takes by the row where a binding in this namespace, or in none, is
-    // live.
+impl Takeover {
+    // Adds the words that a rule which takes this over takes where a binding in this namespace, or
+    // in none, is live.
     fn add_words(
         &self,
         alloc: Global,
@@ -190,12 +182,9 @@ impl WordRow {
         rule: &Rule,
         words: &mut Words,
     ) -> Result<(), AllocError>
-        ensures { OnOk result (AddsWords (TakesWord self.now (option_copied home.entry) rule.now)
+        ensures { OnOk result (AddsWhere (LetsWord self.now (option_copied home.entry) rule.now)
             words.old words.new) }
     {
-        if !self.matches(rule) {
-            return Ok(());
-        }
         if self.lets_any(rule) {
             return self.add_word(alloc, home, None, words);
         }
@@ -205,7 +194,7 @@ impl WordRow {
         }
     }
 
-    // Whether the rule's names let the row's requests be for anything.
+    // Whether the rule's names let the requests be for anything.
     fn lets_any(&self, rule: &Rule) -> bool
         ensures { IsTrue result ↔ LetsName self.now.names rule.now None }
     {
@@ -216,7 +205,7 @@ impl WordRow {
         }
     }
 
-    // Adds the words for whom the row takes over, of each of these names.
+    // Adds the words for who is taken over, of each of these names.
     fn add_named(
         &self,
         alloc: Global,
@@ -224,7 +213,7 @@ impl WordRow {
         names: &[Word],
         words: &mut Words,
     ) -> Result<(), AllocError>
-        ensures { OnOk result (AddsWords (λ w. Any
+        ensures { OnOk result (AddsWhere (λ w. Any
             (λ name. IsWordFor self.now.over self.now.counts (option_copied home.entry)
             (Some name) w) names.now) words.old words.new) }
     {
@@ -234,7 +223,8 @@ impl WordRow {
         Ok(())
     }
 
-    // Adds the word for whom the row takes over, of this name or of any, if there is one.
+    // Adds the word for who is taken over, of this name or of any, if there is one. Most grants of a
+    // binding give the word that the one before gave, which isn't added again.
     fn add_word(
         &self,
         alloc: Global,
@@ -242,18 +232,20 @@ impl WordRow {
         name: Option<&Word>,
         words: &mut Words,
     ) -> Result<(), AllocError>
-        ensures { OnOk result (AddsWords
+        ensures { OnOk result (AddsWhere
             (IsWordFor self.now.over self.now.counts (option_copied home.entry) (option_copied name.entry))
             words.old words.new) }
     {
         if let Some(word) = self.word_for(alloc, home, name)? {
-            words.push(word)?;
+            if !ends_in(words, &word) {
+                words.push(word)?;
+            }
         }
         Ok(())
     }
 
-    // The word for whom the row takes over where a binding in this namespace, or in none, is live, of
-    // this name or of any.
+    // The word for who is taken over where a binding in this namespace, or in none, is live, of this
+    // name or of any.
     fn word_for(
         &self,
         alloc: Global,
@@ -275,6 +267,16 @@ impl WordRow {
             }
             _ => Ok(None),
         }
+    }
+}
+
+// Whether the last of these words is that word.
+fn ends_in(words: &Words, word: &Word) -> bool
+    ensures { IsTrue result → Contains words.now word.now }
+{
+    match words.as_slice().last() {
+        Some(last) => last == word,
+        None => false,
     }
 }
 

@@ -1,3 +1,4 @@
+pub mod ByWord
 pub mod Edges
 pub mod Meets
 pub mod Numbering

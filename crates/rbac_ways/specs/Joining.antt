@@ -37,3 +37,12 @@ pub record AddsToEach (places : List ℕ) (node : ℕ) (old new : List (List ℕ
   pub len : length new ≡ length old
   pub each : (i j : ℕ) → i < length old → IsListedAt new i j
       ↔ (IsListedAt old i j ⊎ ((j ≡ node) × Contains places i))
+
+-- words in order, and the nodes that can be had by the word at each place
+pub record ByWordView : Type 0 where
+  pub words : List Text
+  pub sets : List (List ℕ)
+
+-- the node can be had by the word
+abbrev pub HasUnder : ByWordView → Text → ℕ → Type 0
+HasUnder n w j = (number : ℕ) × (slice_get n.words number ≡ Some w) × IsListedAt n.sets number j

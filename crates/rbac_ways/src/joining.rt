@@ -90,7 +90,7 @@ fn count_words(lists: &[Words]) -> usize {
 }
 
 // The words of these lists, each once, in order.
-fn words_of(alloc: Global, lists: &[Words]) -> Result<Vec<Word>, AllocError>
+pub(crate) fn words_of(alloc: Global, lists: &[Words]) -> Result<Vec<Word>, AllocError>
     ensures { IfOk result (λ words. AreWordsOf lists.now words.items) }
 {
     let mut words = Vec::new(alloc);
@@ -103,7 +103,7 @@ fn words_of(alloc: Global, lists: &[Words]) -> Result<Vec<Word>, AllocError>
 }
 
 // The number of a word, if it is one of these.
-fn number_of(words: &[Word], word: &Word) -> Option<usize>
+pub(crate) fn number_of(words: &[Word], word: &Word) -> Option<usize>
     requires { IsStrictlySortedBy text_cmp words.now }
     ensures { (number : ℕ) → (result ≡ Some number) ↔ (slice_get words.now number ≡ Some word.now) }
 {
@@ -142,7 +142,11 @@ fn takes_of(alloc: Global, words: &[Word], takes: &[Words]) -> Result<Vec<Items<
 }
 
 // The nodes that can be had by each word.
-fn sets_of(alloc: Global, words: &[Word], had_by: &[Words]) -> Result<Vec<Items<usize>>, AllocError>
+pub(crate) fn sets_of(
+    alloc: Global,
+    words: &[Word],
+    had_by: &[Words],
+) -> Result<Vec<Items<usize>>, AllocError>
     requires { IsStrictlySortedBy text_cmp words.now }
     ensures len { IfOk result (λ sets. length sets.items ≡ length words.now) }
     ensures each { IfOk result (λ sets. (number j : ℕ) → number < length words.now

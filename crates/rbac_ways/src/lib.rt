@@ -2,10 +2,12 @@
 //! shortest ways.
 #![tactic(auto)]
 
+mod by_word;
 mod graph;
 mod joining;
 mod meeting;
 mod search;
 
+pub use by_word::NodesByWord;
 pub use graph::{Graph, Reached, Stop};
 pub use search::shortest_ways;

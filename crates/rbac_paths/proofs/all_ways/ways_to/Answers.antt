@@ -21,12 +21,6 @@ pub nodes_of-requires-clause-keys : goal.nodes_of-requires-clause-keys
 nodes_of-requires-clause-keys c =
     subst (λ (ws : List (Bor Who)). AllPairs (λ a b. who_key a.now ≢ who_key b.now) ws) (sym c.as_slice.ensures.value) (c.in_ok-all.ensures.apart c.requires.ordered)
 
-pub numbers_of_nodes-requires-clause-policy : goal.numbers_of_nodes-requires-clause-policy
-numbers_of_nodes-requires-clause-policy c = c.in_ok-names.ensures.policy
-
-pub numbers_of_nodes-requires-clause-index : goal.numbers_of_nodes-requires-clause-index
-numbers_of_nodes-requires-clause-index c = c.requires.index
-
 pub graph_of-requires-clause-policy : goal.graph_of-requires-clause-policy
 graph_of-requires-clause-policy c = c.in_ok-names.ensures.policy
 
@@ -91,13 +85,9 @@ ways_by-requires-clause-held c =
     (subst (λ (ts : List Text). AreNodes p all ts (map node_of c.in_ok-nodes.nodes.items)) c.as_slice-2.ensures.value c.in_ok-nodes.ensures) in
     held p ok all names bound ys are
 
-pub graph_of-requires-clause-numbers : goal.graph_of-requires-clause-numbers
-graph_of-requires-clause-numbers c =
-    subst (AreNumbers c.args.policy.now c.as_slice-rows.result.now (map node_of c.as_slice-nodes.result.now) (length c.as_slice-nodes.result.now)) (sym c.as_slice-numbers.ensures.value) c.in_ok-numbers.ensures
-
 pub ways_by-requires-clause-numbers : goal.ways_by-requires-clause-numbers
 ways_by-requires-clause-numbers c =
-    subst (AreNumbers c.args.policy.now c.as_slice-rows.result.now (map node_of c.as_slice-nodes.result.now) (length c.as_slice-nodes.result.now)) (sym c.as_slice-numbers.ensures.value) c.in_ok-numbers.ensures
+    subst (AreNumbers c.args.policy.now c.as_slice-rows.result.now (map node_of c.as_slice-nodes.result.now) (length c.as_slice-nodes.result.now)) (sym c.as_slice-numbers.ensures.value) c.in_ok-made.ensures.numbers
 
 pub ways_by-requires-clause-linked : goal.ways_by-requires-clause-linked
 ways_by-requires-clause-linked c =
@@ -111,8 +101,8 @@ ways_by-requires-clause-linked c =
     (subst (λ (ts : List Text). AreNodes p all ts (map node_of c.in_ok-nodes.nodes.items)) c.as_slice-2.ensures.value c.in_ok-nodes.ensures) in
     let steps = c.args.steps.now in
     let asked = access_of c.args.access in
-    let g = c.in_ok-graph.graph in
-    let graph = subst (λ (ss : List Step). IsGraphOf p ss ys g) (c.as_slice-rows.ensures.value ∙ c.in_ok-rows.ensures) c.in_ok-graph.ensures in
+    let g = c.in_ok-made.made.graph in
+    let graph = subst (λ (ss : List Step). IsGraphOf p ss ys g) (c.as_slice-rows.ensures.value ∙ c.in_ok-rows.ensures) c.in_ok-made.ensures.graph in
     let back = c.in_ok-back.back in
     let ends = c.in_ok-ends.ends.items in
     let stops = c.in_ok-reached.reached.stops.items in
@@ -132,8 +122,8 @@ ways_by-requires-clause-ends c =
     (subst (λ (ts : List Text). AreNodes p all ts (map node_of c.in_ok-nodes.nodes.items)) c.as_slice-2.ensures.value c.in_ok-nodes.ensures) in
     let steps = c.args.steps.now in
     let asked = access_of c.args.access in
-    let g = c.in_ok-graph.graph in
-    let graph = subst (λ (ss : List Step). IsGraphOf p ss ys g) (c.as_slice-rows.ensures.value ∙ c.in_ok-rows.ensures) c.in_ok-graph.ensures in
+    let g = c.in_ok-made.made.graph in
+    let graph = subst (λ (ss : List Step). IsGraphOf p ss ys g) (c.as_slice-rows.ensures.value ∙ c.in_ok-rows.ensures) c.in_ok-made.ensures.graph in
     let back = c.in_ok-back.back in
     let ends = c.in_ok-ends.ends.items in
     let stops = c.in_ok-reached.reached.stops.items in
@@ -152,8 +142,8 @@ returns c =
     (subst (λ (ts : List Text). AreNodes p all ts (map node_of c.in_ok-nodes.nodes.items)) c.as_slice-2.ensures.value c.in_ok-nodes.ensures) in
     let steps = c.args.steps.now in
     let asked = access_of c.args.access in
-    let g = c.in_ok-graph.graph in
-    let graph = subst (λ (ss : List Step). IsGraphOf p ss ys g) (c.as_slice-rows.ensures.value ∙ c.in_ok-rows.ensures) c.in_ok-graph.ensures in
+    let g = c.in_ok-made.made.graph in
+    let graph = subst (λ (ss : List Step). IsGraphOf p ss ys g) (c.as_slice-rows.ensures.value ∙ c.in_ok-rows.ensures) c.in_ok-made.ensures.graph in
     let back = c.in_ok-back.back in
     let ends = c.in_ok-ends.ends.items in
     let stops = c.in_ok-reached.reached.stops.items in

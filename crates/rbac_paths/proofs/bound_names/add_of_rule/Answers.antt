@@ -2,7 +2,7 @@ use Rattle.std.proofs.Common.{◌≡◌, ◌∙◌, ◌++◌, List, Contains, ap
 use Rattle.std.proofs.lemmas.List.Elements.{same_from_all_zip}
 use Rattle.rbac_terms.specs.Text.{Text}
 use Rattle.rbac_paths.specs.BoundNames.{BindsNamed}
-use Rattle.rbac_paths.specs.SharedWords.{AddsWords}
+use Rattle.rbac_paths.specs.SharedWords.{AddsWhere}
 use Rattle.rbac_paths.proofs.BoundNames.{binds_named, binds_none}
 use Rattle.rbac_paths.proofs.WordsAdded.{adds_all, adds_none, adds_same}
 use Rattle.rbac_paths.proofs.bound_names.add_of_rule.Goals as goal
@@ -14,7 +14,7 @@ returns-in_ok-extend_with_clones c =
     let added = c.in_ok-extend_with_clones.ensures.items in
     let names : added.0 ≡ rule.resource_names = same_from_all_zip _ c.as_slice.result.now added.0 added.2 (λ x y same. same) ∙ c.as_slice.ensures in
     let new : c.extend_with_clones.new.self.items ≡ old ++ rule.resource_names = added.1 ∙ ap (λ (ws : List Text). old ++ ws) names in
-    subst (λ (ws : List Text). AddsWords (BindsNamed rule) old ws) (sym new)
+    subst (λ (ws : List Text). AddsWhere (BindsNamed rule) old ws) (sym new)
     (adds_same (Contains rule.resource_names) (BindsNamed rule) (binds_named c.args.rows.now c.requires rule (c.matches_some.ensures.0 c.if-matches_some.true)) old (old ++ rule.resource_names) (adds_all rule.resource_names old))
 
 pub returns-else-matches_some : goal.returns-else-matches_some

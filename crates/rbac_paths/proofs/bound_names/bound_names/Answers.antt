@@ -6,7 +6,7 @@ use Rattle.rbac_terms.specs.declared.matching.Rule.{Rule}
 use Rattle.rbac_model.specs.Policies.{Held}
 use Rattle.rbac_paths.specs.BoundNames.{BindsNamed}
 use Rattle.rbac_paths.specs.Rows.{AreOfStep}
-use Rattle.rbac_paths.specs.SharedWords.{AddsWords}
+use Rattle.rbac_paths.specs.SharedWords.{AddsWhere}
 use Rattle.rbac_paths.specs.Steps.{StepRowView, table}
 use Rattle.rbac_paths.specs.declared.steps.Step.TheVariants.{Bind}
 use Rattle.rbac_paths.proofs.BoundNames.{AddsOfClusterRoles, AddsOfRoles, names_are}
@@ -14,7 +14,7 @@ use Rattle.rbac_paths.proofs.WordsAdded.{adds_each, adds_first, adds_more}
 use Rattle.rbac_paths.proofs.bound_names.bound_names.Goals as goal
 
 abbrev OfRules : List Rule → List Text → List Text → Type 0
-OfRules rules old new = AddsWords (λ name. Any (λ rule. BindsNamed rule name) rules) old new
+OfRules rules old new = AddsWhere (λ name. Any (λ rule. BindsNamed rule name) rules) old new
 
 pub add_names-requires : goal.add_names-requires
 add_names-requires c = subst (λ (rows : List StepRowView). AreOfStep Bind table rows) (sym c.as_slice.ensures.value) c.in_ok-rows.ensures

@@ -1,0 +1,324 @@
+//! Which roles a node takes over, and everything where.
+
+ghost use Rattle.std.specs.Prelude.{◌≡◌, ◌<◌, ◌↔◌, ◌∷◌, [], All, Any, Contains, IfOk, IsTrue, List};
+ghost use Rattle.std.specs.Prelude.{None, OnOk, length, map, ℕ};
+ghost use Rattle.std.specs.Option.{option_copied};
+ghost use Rattle.rbac_model.specs.Policies.{PolicyView};
+ghost use Rattle.rbac_ways.specs.Joining.{HasUnder};
+ghost use Rattle.rbac_paths.specs.Deciding.{GiveHoldings};
+ghost use Rattle.rbac_paths.specs.Having.{HoldingView};
+ghost use Rattle.rbac_paths.specs.Joints.{AreAmongOthers, AreAskedPlaces, AreOtherPlaces, AreOthers};
+ghost use Rattle.rbac_paths.specs.Joints.{AreOthersAt, AreOverOthers, AreScopeWords, AreScoped};
+ghost use Rattle.rbac_paths.specs.Joints.{CountsAt, DecideOn, IsNobody, OthersView, scope_at};
+ghost use Rattle.rbac_paths.specs.Joints.{scope_words};
+ghost use Rattle.rbac_paths.specs.Nodes.{NodeView, node_of};
+ghost use Rattle.rbac_paths.specs.SharedWords.{AddsWhere};
+ghost use Rattle.rbac_paths.specs.Takeovers.{HaveTakeovers};
+ghost use Rattle.rbac_paths.specs.Taking.{scope_namespace};
+ghost use Rattle.rbac_paths.specs.TakingOver.{TakesOver};
+ghost use Rattle.rbac_paths.specs.Tracing.{IsAt};
+ghost use Rattle.rbac_paths.specs.declared.steps.Step.{Step};
+ghost use Rattle.rbac_paths.specs.declared.steps.Step.TheVariants.{Bind, Escalate};
+
+use crate::holding::Holding;
+use crate::node::Node;
+use crate::rule_takeovers::RuleTakeovers;
+use crate::takeover::{some_is_over_nobody, takeovers_of};
+use crate::taking::scope_namespace;
+use crate::told::{StepRows, first_told, has_all};
+use rbac_model::Policy;
+use rbac_terms::{Items, Word, Words};
+use rbac_ways::NodesByWord;
+use std::alloc::{AllocError, Global};
+use std::marker::Model;
+
+/// The places of the roles among some nodes, and of everything: all of them, and those of each scope.
+/// Most nodes are users and groups.
+pub(crate) struct Others {
+    places: Vec<usize>,
+    by_scope: NodesByWord,
+}
+
+impl Drop for Others {
+    fn drop(self) {
+        let Self { places, by_scope } = self;
+    }
+}
+
+impl Model for Others {
+    ghost use Rattle.rbac_paths.specs.Joints.{OthersView};
+
+    ghost Value = { OthersView };
+
+    ghost view = { λ o. record { places = o.places.items; by_scope = o.by_scope } };
+}
+
+impl Others {
+    /// Those of these nodes.
+    pub(crate) fn of(alloc: Global, nodes: &[Node<'_>]) -> Result<Self, AllocError>
+        ensures { IfOk result (AreAmongOthers (map node_of nodes.now)) }
+    {
+        let places = places_of_others(alloc, nodes)?;
+        let scopes = scopes_of_others(alloc, nodes)?;
+        let by_scope = NodesByWord::of(alloc, scopes.as_slice())?;
+        Ok(Others { places, by_scope })
+    }
+
+    // Those in the scope.
+    fn at(&self, alloc: Global, scope: Option<&Word>) -> &[usize]
+        ensures { (j : ℕ) → Contains result.now j
+            ↔ HasUnder self.now.by_scope (scope_namespace (option_copied scope.entry)) j }
+    {
+        match scope {
+            Some(namespace) => self.by_scope.under(namespace),
+            None => self.by_scope.under(&Word::new(alloc)),
+        }
+    }
+}
+
+// The places of the roles among these nodes, and of everything.
+fn places_of_others(alloc: Global, nodes: &[Node<'_>]) -> Result<Vec<usize>, AllocError>
+    ensures { IfOk result (λ places. AreOtherPlaces (map node_of nodes.now) places.items) }
+{
+    let mut places = Vec::new(alloc);
+    for (place, node) in nodes.iter().enumerate() {
+        if is_nobody(*node) {
+            places.push(place)?;
+        }
+    }
+    Ok(places)
+}
+
+// Whether a node is a role, or everything.
+fn is_nobody(node: Node<'_>) -> bool
+    ensures { IsTrue result ↔ IsNobody (node_of node.entry) }
+{
+    !matches!(node, Node::Somebody(_))
+}
+
+// For each of these nodes, the word for where it is; users and groups are nowhere.
+fn scopes_of_others(alloc: Global, nodes: &[Node<'_>]) -> Result<Vec<Words>, AllocError>
+    ensures { IfOk result (λ all. AreScopeWords (map node_of nodes.now) (length nodes.now) all.items) }
+{
+    let mut all = Vec::with_capacity(alloc, nodes.len())?;
+    for node in nodes {
+        all.push(words_of_scope(alloc, *node)?)?;
+    }
+    Ok(all)
+}
+
+// The word for where a node is, if it is a role, or everything.
+fn words_of_scope(alloc: Global, node: Node<'_>) -> Result<Words, AllocError>
+    ensures { IfOk result (λ ws. ws ≡ scope_words (node_of node.entry)) }
+{
+    let mut words = Words::new(alloc);
+    if is_nobody(node) {
+        let scope = scope_namespace(scope_at(node));
+        words.push(Word::from_slice(alloc, scope)?)?;
+    }
+    Ok(words)
+}
+
+// Where a role is, or everything.
+fn scope_at<'p>(node: Node<'p>) -> Option<&'p Word>
+    ensures { option_copied result ≡ scope_at (node_of node.entry) }
+{
+    match node {
+        Node::Somebody(_) => None,
+        Node::ClusterRole(_, scope) | Node::Everything(scope) => scope,
+        Node::Role(role) => Some(&role.namespace),
+    }
+}
+
+/// Those of the holdings whose rules match some row of the steps that is over roles or everything.
+pub(crate) fn over_others<'p>(
+    alloc: Global,
+    steps: &[StepRows],
+    holdings: &[Holding<'p>],
+) -> Result<Vec<Holding<'p>>, AllocError>
+    ensures { IfOk result (λ few. AreOverOthers steps.now holdings.now few.items) }
+{
+    let mut few = Vec::new(alloc);
+    for held in holdings {
+        let takeovers = takeovers_of(alloc, steps, held.rule)?;
+        if some_is_over_nobody(takeovers.as_slice()) {
+            let Holding { home, rule } = *held;
+            few.push(Holding { home, rule })?;
+        }
+    }
+    Ok(few)
+}
+
+/// The same of what the grants with these numbers give. What the rules of roles take over by the steps
+/// is given.
+pub(crate) fn over_others_of_grants<'p>(
+    alloc: Global,
+    policy: &'p Policy,
+    takeovers: &RuleTakeovers,
+    numbers: &[u32],
+) -> Result<Vec<Holding<'p>>, AllocError>
+    requires { All (λ n. n < length policy.now.grants) numbers.now }
+    ensures { (steps : List Step) (hs : List HoldingView)
+        → HaveTakeovers policy.now.held steps takeovers.now
+        → GiveHoldings policy.now numbers.now hs
+        → IfOk result (λ few. AreOverOthers steps hs few.items) }
+{
+    let mut few = Vec::new(alloc);
+    for no in numbers {
+        if some_is_over_nobody(takeovers.of_grant(policy.place(*no))) {
+            few.push(Holding::by(policy.grant(*no)))?;
+        }
+    }
+    Ok(few)
+}
+
+/// The places of the roles among these nodes, and of everything, that a node takes over; these holdings
+/// decide that. The steps by which one writes are given, and the places of all roles and everything.
+pub(crate) fn others_taken(
+    alloc: Global,
+    steps: &[StepRows],
+    writing: &[StepRows],
+    few: &[Holding<'_>],
+    from: Node<'_>,
+    nodes: &[Node<'_>],
+    others: &Others,
+) -> Result<Items<usize>, AllocError>
+    requires writing { writing.now ≡ Bind ∷ Escalate ∷ [] }
+    requires others { AreAmongOthers (map node_of nodes.now) others.now }
+    ensures { (p : PolicyView)
+        → DecideOn p steps.now (node_of from.entry) few.now IsNobody
+        → IfOk result
+        (λ js. AreOthers p steps.now (node_of from.entry) (map node_of nodes.now) js) }
+{
+    if few.is_empty() {
+        return Ok(Items::new(alloc));
+    }
+    let scoped = scoped(alloc, steps, writing, few)?;
+    let places = places_to_ask(alloc, few, scoped.as_slice(), others)?;
+    others_among(alloc, steps, few, from, nodes, places.as_slice())
+}
+
+// Those of the holdings in whose scopes a node may take over roles, and everything in a namespace. Only
+// by writing does it take over such, and none if it takes over everything in the cluster so. Most rules
+// that are over everything are over that of the cluster alone.
+fn scoped<'p>(
+    alloc: Global,
+    steps: &[StepRows],
+    writing: &[StepRows],
+    holdings: &[Holding<'p>],
+) -> Result<Vec<Holding<'p>>, AllocError>
+    requires { writing.now ≡ Bind ∷ Escalate ∷ [] }
+    ensures { (p : PolicyView) (x : NodeView) → DecideOn p steps.now x holdings.now IsNobody
+        → IfOk result (λ few. AreScoped p steps.now x few.items) }
+{
+    if count_in_cluster(holdings) && has_all(steps, holdings, None) {
+        return Ok(Vec::new(alloc));
+    }
+    over_others(alloc, writing, holdings)
+}
+
+// Whether some of these holdings counts in the whole cluster.
+fn count_in_cluster(holdings: &[Holding<'_>]) -> bool
+    ensures { IsTrue result ↔ Any (CountsAt None) holdings.now }
+{
+    holdings.iter().any(counts_in_cluster)
+}
+
+// Whether the holding counts in the whole cluster.
+fn counts_in_cluster(held: &Holding<'_>) -> bool
+    ensures { IsTrue result ↔ CountsAt None held.now }
+{
+    held.home.is_none()
+}
+
+// The places of the others that are asked for: those where one of these scoped holdings counts, and, if
+// one of the few counts in the cluster, those in the cluster. Each is listed once.
+fn places_to_ask(
+    alloc: Global,
+    few: &[Holding<'_>],
+    scoped: &[Holding<'_>],
+    others: &Others,
+) -> Result<Vec<usize>, AllocError>
+    ensures { (ys : List NodeView) → AreAmongOthers ys others.now
+        → IfOk result (λ places. AreAskedPlaces ys few.now scoped.now places.items) }
+{
+    let mut places = Vec::new(alloc);
+    if count_in_cluster(scoped) {
+        places.extend_from_slice(others.places.as_slice())?;
+        return Ok(places);
+    }
+    add_in_cluster(alloc, few, others, &mut places)?;
+    add_in_scopes(alloc, scoped, others, &mut places)?;
+    places.sort_unstable();
+    places.dedup();
+    Ok(places)
+}
+
+// Adds the places of the others in the whole cluster, if one of these holdings counts there.
+fn add_in_cluster(
+    alloc: Global,
+    holdings: &[Holding<'_>],
+    others: &Others,
+    places: &mut Vec<usize>,
+) -> Result<(), AllocError>
+    ensures { OnOk result (AddsWhere
+        (λ j. Any (CountsAt None) holdings.now × HasUnder others.now.by_scope [] j)
+        places.old.items places.new.items) }
+{
+    if count_in_cluster(holdings) {
+        places.extend_from_slice(others.at(alloc, None))?;
+    }
+    Ok(())
+}
+
+// Adds the places of the others in the scopes of these holdings.
+fn add_in_scopes(
+    alloc: Global,
+    holdings: &[Holding<'_>],
+    others: &Others,
+    places: &mut Vec<usize>,
+) -> Result<(), AllocError>
+    ensures { OnOk result (AddsWhere
+        (λ j. Any (λ h. HasUnder others.now.by_scope (scope_namespace h.home) j) holdings.now)
+        places.old.items places.new.items) }
+{
+    for held in holdings {
+        places.extend_from_slice(others.at(alloc, held.home))?;
+    }
+    Ok(())
+}
+
+// Those of these places of others at which the node takes over what is there; these holdings decide
+// that.
+fn others_among(
+    alloc: Global,
+    steps: &[StepRows],
+    holdings: &[Holding<'_>],
+    from: Node<'_>,
+    nodes: &[Node<'_>],
+    places: &[usize],
+) -> Result<Items<usize>, AllocError>
+    requires { All (IsAt IsNobody (map node_of nodes.now)) places.now }
+    ensures { (p : PolicyView)
+        → DecideOn p steps.now (node_of from.entry) holdings.now IsNobody
+        → IfOk result
+        (λ js. AreOthersAt p steps.now (node_of from.entry) (map node_of nodes.now) places.now js) }
+{
+    let mut taken = Vec::new(alloc);
+    for place in places {
+        if takes_nobody(steps, holdings, from, nodes[*place]) {
+            taken.push(*place)?;
+        }
+    }
+    Ok(Items::from_vec(taken))
+}
+
+// Whether a node takes over a role, or everything; these holdings decide that.
+fn takes_nobody(steps: &[StepRows], holdings: &[Holding<'_>], from: Node<'_>, to: Node<'_>) -> bool
+    ensures { (p : PolicyView)
+        → DecideOn p steps.now (node_of from.entry) holdings.now IsNobody
+        → IsNobody (node_of to.entry)
+        → IsTrue result ↔ TakesOver p steps.now (node_of from.entry) (node_of to.entry) }
+{
+    first_told(steps, holdings, from, to).is_some()
+}
