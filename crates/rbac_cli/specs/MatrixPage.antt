@@ -39,7 +39,8 @@ abbrev pub cut_at : Option ℕ → List RowView → List RowView × Bool
 cut_at None rows = (rows, false)
 cut_at (Some n) rows = page None n rows
 
--- the mark behind a row: the row's key, or with `--every` its key and its binding
+-- the mark with which the next page begins after a row: the row's key, or with `--every` its key
+-- and its binding
 abbrev pub mark_after : Bool → RowView → Mark
 mark_after false row = record { key = cell_key row.cell; binding = None }
 mark_after true row = mark_of row
