@@ -1,4 +1,5 @@
--- The prefixes of a role's URLs, in order; each links to a shorter one that it begins with.
+-- The prefixes of a role's URLs, in order; each links to the longest other one that it begins with,
+-- if there is one.
 use Rattle.std.specs.Prelude.{◌≡◌, ℕ, ◌<◌, ◌≤◌, List, [], ◌∷◌, ◌++◌, Option, Some, None, IfSome}
 use Rattle.std.specs.Prelude.{map, slice_get, true}
 use Rattle.std.specs.BTreeMap.{BTreeMap, IsOrdered}
@@ -26,7 +27,8 @@ abbrev pub LinksTo : List Prefix → ℕ → Text → Option ℕ → Type 0
 LinksTo prefixes count text way = (j : ℕ) (g : Prefix) → j < count → slice_get prefixes j ≡ Some g
     → BeginsWith text g.text → IsOnWay prefixes way j g.text
 
--- a prefix links to an earlier one, from which the way has all earlier ones that it begins with
+-- the link of a prefix, if it has one, is to an earlier prefix, and the way from there has all
+-- earlier ones that the prefix begins with
 abbrev pub IsLinkedAt : List Prefix → ℕ → Prefix → Type 0
 IsLinkedAt prefixes i f = LinksTo prefixes i f.text f.shorter × IfSome f.shorter (λ p. p < i)
 
