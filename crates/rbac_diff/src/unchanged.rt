@@ -12,8 +12,8 @@ use rbac_terms::{Rule, Words};
 use std::alloc::{AllocError, Global};
 
 // Whether the binding at `place` grants no more than the other policy's binding at `at`: both are
-// in the same namespace or in none, and the other one's rules cover its rules and its subjects
-// include its subjects.
+// in the same namespace or in none, and the other binding has all of this one's subjects, and rules
+// that cover this one's.
 pub(crate) fn grants_no_more(
     alloc: Global,
     own: &Policy,
