@@ -1,4 +1,4 @@
-//! The places of the bindings that name a principal: each of its keys is looked up once.
+//! The places of the bindings that name a principal. Each key of the principal is looked up once.
 
 ghost use Rattle.std.specs.Prelude.{◌↔◌, Contains, IfOk, OnOk, ℕ};
 ghost use Rattle.std.specs.List.Sorted.{IsSorted};
@@ -10,8 +10,8 @@ use crate::subject_keys::{Keyed, first_entry, is_before};
 use rbac_terms::Principal;
 use std::alloc::{AllocError, Global};
 
-// The places below `end` that are listed under a key of the principal, in any order; one may be there
-// more than once.
+// The places below `end` that are listed under a key of the principal, in any order and with
+// repeats.
 pub(crate) fn places_under(
     alloc: Global,
     entries: &[Keyed],
@@ -29,8 +29,8 @@ pub(crate) fn places_under(
     Ok(places)
 }
 
-// Adds the places below `end` that are listed under this key. The first is looked up; the others come
-// right after it.
+// Adds the places below `end` that are listed under this key. The first is looked up; the others
+// follow it directly.
 fn push_under(
     entries: &[Keyed],
     key: &PrincipalKey<'_>,
