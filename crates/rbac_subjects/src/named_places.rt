@@ -6,7 +6,7 @@ ghost use Rattle.rbac_model.specs.Holders.{IsKeyFor};
 ghost use Rattle.rbac_subjects.specs.Keyed.{AddsPlaces, IsUnderAny, IsUnderBetween, keyed_cmp};
 
 use crate::principal_keys::{PrincipalKey, keys_of};
-use crate::subject_keys::{Keyed, first_entry, is_before};
+use crate::subject_keys::{Keyed, first_entry};
 use rbac_terms::Principal;
 use std::alloc::{AllocError, Global};
 
@@ -29,8 +29,8 @@ pub(crate) fn places_under(
     Ok(places)
 }
 
-// Adds the places below `end` that are listed under this key. The first is looked up; the others
-// follow it directly.
+// Adds the places below `end` that are listed under this key. They stand side by side: where they
+// begin is looked up, and where they end.
 fn push_under(
     entries: &[Keyed],
     key: &PrincipalKey<'_>,
@@ -42,11 +42,9 @@ fn push_under(
         places.old.items places.new.items) }
 {
     let mut at = first_entry(entries, key, 0);
-    while at < entries.len() {
+    let past = first_entry(entries, key, end);
+    while at < past {
         let entry = &entries[at];
-        if !is_before(entry, key, end) {
-            return Ok(());
-        }
         places.push(entry.place)?;
         at += 1;
     }

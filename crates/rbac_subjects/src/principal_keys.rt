@@ -46,8 +46,14 @@ impl<'a> PrincipalKey<'a> {
     pub(crate) fn cmp_listed(&self, listed: &[u8]) -> Ordering
         ensures { result ≡ text_cmp listed.now self.now }
     {
+        if self.rest.is_empty() {
+            return listed.cmp(self.prefix);
+        }
         let (head, tail) = listed.split_at(listed.len().min(self.prefix.len()));
-        head.cmp(self.prefix).then(tail.cmp(self.rest))
+        match head.cmp(self.prefix) {
+            Ordering::Equal => tail.cmp(self.rest),
+            by_prefix => by_prefix,
+        }
     }
 }
 

@@ -58,15 +58,21 @@ fn push_keys(
 fn cmp_keyed(a: &Keyed, b: &Keyed) -> Ordering
     ensures { result ≡ keyed_cmp a.now b.now }
 {
-    a.key.cmp(&b.key).then(a.place.cmp(&b.place))
+    match a.key.cmp(&b.key) {
+        Ordering::Equal => a.place.cmp(&b.place),
+        by_key => by_key,
+    }
 }
 
 // Whether the entry comes before one with this key and place.
 pub(crate) fn is_before(entry: &Keyed, key: &PrincipalKey<'_>, place: usize) -> bool
     ensures { result ≡ is_lt (keyed_cmp entry.now (keyed key.now place)) }
 {
-    let by_key = key.cmp_listed(entry.key.as_bytes());
-    by_key.then(entry.place.cmp(&place)).is_lt()
+    match key.cmp_listed(entry.key.as_bytes()) {
+        Ordering::Less => true,
+        Ordering::Equal => entry.place < place,
+        Ordering::Greater => false,
+    }
 }
 
 // The place of the first entry that doesn't come before an entry with this key and place.
