@@ -10,7 +10,7 @@ ghost use Rattle.rbac_terms.specs.Principals.{AsUser, AsMember};
 use crate::fault::ModelFault;
 use crate::items::Items;
 use crate::matching::Rules;
-use crate::request::{Principal, account_user, member_key, user_key};
+use crate::request::{Principal, account_key, member_key, user_key};
 use crate::selecting::{Labels, Selectors};
 use crate::text::{Word, Words};
 use std::alloc::{AllocError, Global};
@@ -171,10 +171,7 @@ pub fn subject_key(
         Subject::User(name) => Ok(Some(user_key(alloc, name)?)),
         Subject::Group(name) => Ok(Some(member_key(alloc, name)?)),
         Subject::Account { namespace, name } => match namespace_of(namespace, binding_namespace) {
-            Some(namespace) => {
-                let user = account_user(alloc, namespace, name)?;
-                Ok(Some(user_key(alloc, &user)?))
-            }
+            Some(namespace) => Ok(Some(account_key(alloc, namespace, name)?)),
             None => Ok(None),
         },
     }

@@ -235,11 +235,11 @@ impl Principal {
     pub fn account(alloc: Global, namespace: &Word, name: &Word) -> Result<Self, AllocError>
         ensures { IfOk result (λ p. p ≡ account_principal namespace.now name.now) }
     {
-        let user = account_user(alloc, namespace, name)?;
-        match Principal::user(alloc, &user, &Words::new(alloc)) {
-            Ok(user) => Ok(user),
-            Err(_) => Err(AllocError),
-        }
+        Ok(Principal {
+            is_user: true,
+            key: account_key(alloc, namespace, name)?,
+            given: GivenGroups::new(alloc),
+        })
     }
 
     /// Adds to a user's given groups those of `more`, a principal with the same key; a member of a
@@ -378,8 +378,10 @@ fn named_key(alloc: Global, prefix: &[u8], name: &Word) -> Result<Word, ModelFau
 fn with_prefix(alloc: Global, prefix: &[u8], name: &Word) -> Result<Word, AllocError>
     ensures { IfOk result (λ word. word ≡ prefix.now ++ name.now) }
 {
-    let mut word = Word::from_slice(alloc, prefix)?;
-    word.push_slice(name.as_bytes())?;
+    let name = name.as_bytes();
+    let mut word = Word::with_capacity(alloc, prefix.len() + name.len())?;
+    word.push_slice(prefix)?;
+    word.push_slice(name)?;
     Ok(word)
 }
 
@@ -402,11 +404,37 @@ pub(crate) fn member_key(alloc: Global, name: &Word) -> Result<Word, AllocError>
 pub fn account_user(alloc: Global, namespace: &Word, name: &Word) -> Result<Word, AllocError>
     ensures { IfOk result (λ user. user ≡ account_user namespace.now name.now) }
 {
-    let mut user = Word::from_slice(alloc, ACCOUNT)?;
-    user.push_slice(namespace.as_bytes())?;
-    user.push_slice(COLON)?;
-    user.push_slice(name.as_bytes())?;
-    Ok(user)
+    account_after(alloc, &[], namespace, name)
+}
+
+// The key of the user that a service account asks as.
+pub(crate) fn account_key(alloc: Global, namespace: &Word, name: &Word) -> Result<Word, AllocError>
+    ensures { IfOk result
+        (λ key. key ≡ who_key (AsUser (account_user namespace.now name.now) [])) }
+{
+    account_after(alloc, USER_PREFIX, namespace, name)
+}
+
+// The user name of a service account after this prefix, in a text that has room for all of it.
+fn account_after(
+    alloc: Global,
+    prefix: &[u8],
+    namespace: &Word,
+    name: &Word,
+) -> Result<Word, AllocError>
+    ensures { IfOk result (λ text. text ≡ prefix.now ++ account_user namespace.now name.now) }
+{
+    let namespace = namespace.as_bytes();
+    let name = name.as_bytes();
+    let fixed = prefix.len() + ACCOUNT.len() + COLON.len();
+    let given = namespace.len().saturating_add(name.len());
+    let mut text = Word::with_capacity(alloc, fixed.saturating_add(given))?;
+    text.push_slice(prefix)?;
+    text.push_slice(ACCOUNT)?;
+    text.push_slice(namespace)?;
+    text.push_slice(COLON)?;
+    text.push_slice(name)?;
+    Ok(text)
 }
 
 // The namespace of the service account with this user name; `None` for any other user name.

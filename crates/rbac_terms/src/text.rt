@@ -67,6 +67,16 @@ impl Word {
         }
     }
 
+    // The empty text, with room for this many bytes. Fails only if it runs out of memory.
+    pub(crate) fn with_capacity(alloc: Global, capacity: usize) -> Result<Self, AllocError>
+        ensures { IfOk result (λ w. w ≡ []) }
+    {
+        let own = SmallVec::with_capacity(alloc, capacity)?;
+        Ok(Word {
+            held: Held::Own(own),
+        })
+    }
+
     /// A copy of these bytes. Fails only if it runs out of memory.
     pub fn from_slice(alloc: Global, bytes: &[u8]) -> Result<Self, AllocError>
         ensures { IfOk result (λ w. w ≡ bytes.now) }
