@@ -1,4 +1,4 @@
--- A value less the members that nobody has a use for.
+-- A value without the members that nobody uses.
 use Rattle.std.specs.Prelude.{ℕ, List, Option, Some, None, option_map}
 use Rattle.serde_json.specs.Data.{Data, null, boolean, number, string, array, object}
 use Rattle.serde_json.specs.Data.{Items, no_items, item, Members, no_members, member}
@@ -8,9 +8,9 @@ abbrev pub with_member : List ℕ → Option Data → Members → Members
 with_member name None ms = ms
 with_member name (Some d) ms = member name d ms
 
--- What is kept of a value: of an object each member for whose name `under` keeps something, and of
--- its value what `under` says; of an array each item, and of it the same as of the array; any other
--- value as it is.
+-- What is kept of a value. Of an object: each member whose name `under` keeps, with what it keeps
+-- of the value. Of an array: each item, of which the same is kept as of the array. Any other value
+-- is kept as it is.
 abbrev mutual
   pub lean : {K : Type 0} → (K → List ℕ → Option K) → K → Data → Data
   lean under kept null = null

@@ -26,8 +26,8 @@ abbrev pub object_from : Members → List Token → Option Data
 object_from found ts =
     option_map object (option_and_then (λ ms. of_members ms found) (if_ended (members_in ts)))
 
--- A text is an object with these members before a list under `items`, and is read up to the list:
--- it is the object with all of its members.
+-- A text is read up to a list under `items`: it is the object with these members before the list,
+-- the items ahead, and the members after them.
 abbrev pub IsReadUpTo : List ℕ → Members → List Token → Type 0
 IsReadUpTo text before ahead = read text
     ≡ option_and_then (λ p. object_from (put items_name (array p.0) before) p.1)
@@ -35,14 +35,15 @@ IsReadUpTo text before ahead = read text
 
 -- the members ahead, with which the text ends, have no `items` among them
 abbrev pub OthersFollow : List Token → Type 0
-OthersFollow ts = (ms : json.Members) × (members_in ts ≡ Some (ms, [])) × (values_of items_name ms ≡ [])
+OthersFollow ts = (ms : json.Members) × (members_in ts ≡ Some (ms, []))
+    × (values_of items_name ms ≡ [])
 
 -- if a text is a list, what follows its items has no `items`
 abbrev pub IsListUpTo : List ℕ → List Token → Type 0
 IsListUpTo text ahead = IsList text → (ds : Items) (rest : List Token)
     → items_and_rest ahead ≡ Some (ds, rest) → OthersFollow rest
 
--- with the members before a list and those ahead, these are all that are beside its items
+-- these are all members of an object but its list: those before the list, and those ahead
 abbrev pub AreTheOthers : Members → List Token → Members → Type 0
 AreTheOthers before ts others = (ds : Items)
     → object_from (put items_name (array ds) before) ts ≡ Some (with_items others ds)

@@ -26,8 +26,8 @@ IsUpToItems old found at =
     × (HasOneList old → (ds : Items) (rest : List Token)
     → items_and_rest at ≡ Some (ds, rest) → OthersFollow rest)
 
--- what is kept of a member was put to those that were found of its object; nothing, if it is left
--- out
+-- what is kept of a member was added to the members found of its object; nothing, if the member is
+-- left out
 abbrev pub IsPutIn : {K : Type 0} → (K → List ℕ → Option K) → K → List ℕ → Data → Members → Members
     → Type 0
 IsPutIn under kept name d old new = MatchOption (under kept name) (new ≡ old)

@@ -8,7 +8,7 @@ ghost use Rattle.std.specs.Prelude.{◌≡◌, ℕ, List, Option, Some};
 pub trait Kept: Copy {
     ghost under: { Self → List ℕ → Option Self };
 
-    /// What is kept of the value of a member of this name; None if the member is left out (own).
+    /// What is kept of the value of a member of this name; `None` if the member is left out (own).
     fn under(self, name: &str) -> Option<Self>
         ensures { result ≡ under self name.now };
 }

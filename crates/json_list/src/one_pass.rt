@@ -41,7 +41,7 @@ pub struct ListFront<'a> {
     pub unread: Unread<'a>,
 }
 
-/// What is left of a text. A clause sees its tokens.
+/// The part of a text that isn't read yet. Contracts see its tokens.
 #[derive(Drop)]
 pub struct Unread<'a> {
     reader: Reader<'a>,
@@ -59,12 +59,12 @@ impl<'a> Model for Unread<'a> {
 }
 
 impl<'a> Unread<'a> {
-    /// What is kept of the next item; None after the last one, and then `rest` has the members
+    /// What is kept of the next item; `None` after the last one. Then `rest` reads the members
     /// after the list (own).
     ///
     /// # Errors
     ///
-    /// Refused only if the rest of the list can't be read.
+    /// `Refused` only if the rest of the list can't be read; otherwise `NoMemory`.
     pub fn next_item<K: Kept>(&mut self, alloc: Global, kept: K) -> Result<Option<Value>, ReadFault>
         ensures next { IfOk result (λ next. MatchOption next
             (items_and_rest self.old ≡ Some (no_items, self.new))
@@ -80,12 +80,13 @@ impl<'a> Unread<'a> {
         Ok(Some(read_kept(alloc, &mut self.reader, ITEM_DEPTH, kept)?))
     }
 
-    /// The members beside the list: those before it, and those after it (own). None only if another
-    /// of them is `items`.
+    /// The members of the object other than the list: those in `before`, and those after the list
+    /// (own). `None` only if a member after the list is named `items` too.
     ///
     /// # Errors
     ///
-    /// Refused only if `serde_json` doesn't read the rest of the text either.
+    /// `Refused` only if `serde_json` doesn't read the rest of the text either; otherwise
+    /// `NoMemory`.
     pub fn rest(
         &mut self,
         alloc: Global,
@@ -154,7 +155,7 @@ fn read_rest(
 }
 
 // Puts the members of an object before a list under `items` into an empty map; false if the first
-// `items` isn't a list.
+// `items` isn't a list, or there is no `items`.
 fn read_before(
     alloc: Global,
     reader: &mut Reader<'_>,
@@ -175,13 +176,13 @@ fn read_before(
     Ok(false)
 }
 
-/// The list that a text is, read up to its items (own). None only if the text isn't an object with
-/// one list under `items`. `scratch` is where texts with escapes are kept; it grows to the length
-/// of the text.
+/// Reads a text that is a list up to its items (own). `None` only if the text isn't an object with
+/// one `items`, which is a list. `scratch` holds texts with escapes; it grows to the length of the
+/// text.
 ///
 /// # Errors
 ///
-/// Refused only if `serde_json` doesn't read the text either.
+/// `Refused` only if `serde_json` doesn't read the text either; otherwise `NoMemory`.
 pub fn open_front<'a>(
     alloc: Global,
     text: &'a str,

@@ -59,7 +59,7 @@ fn string_of(alloc: Global, text: &str) -> Result<Value, ReadFault>
     Ok(Value::String(String::from_str(alloc, text)?))
 }
 
-// Puts a member into an object, of which the value comes next.
+// Puts a member of this name into an object. The member's value comes next.
 pub(crate) fn read_member(
     alloc: Global,
     reader: &mut Reader<'_>,
@@ -151,7 +151,7 @@ fn members_from<K: Kept>(
     Ok(Value::Object(found))
 }
 
-// Puts what is kept of a member into what was found of its object. The member's value comes next.
+// Adds what is kept of a member to the members found of its object. The member's value comes next.
 #[cycle(value_from)]
 fn member_from<K: Kept>(
     alloc: Global,

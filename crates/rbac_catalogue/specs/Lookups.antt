@@ -21,8 +21,8 @@ IsCalled word e = (word ≡ e.name) ⊎ (word ≡ e.singular) ⊎ Contains e.sho
 abbrev pub HasWords : Entry → Type 0
 HasWords e = (e.name ≢ []) × (¬ Contains e.name slash)
 
--- a word names an entry if words can name the entry and it is called so; the empty word names
--- nothing (own)
+-- a word names an entry: words can name the entry, and the word is one of its names; the empty word
+-- names nothing (own)
 abbrev pub IsNamed : Text → Entry → Type 0
 IsNamed word e = (word ≢ []) × HasWords e × IsCalled word e
 
@@ -44,8 +44,8 @@ pub record IsLeastOf (P : Entry → Type 0) (entries : List Entry) (found : Foun
   pub listed : Any (λ e. P e × (resource_of e ≡ found)) entries
   pub none_before : ¬ Any (λ e. P e × (resource_cmp (resource_of e) found ≡ Less)) entries
 
--- what a word means in that group, or in any: the least resource that it names there; if it names
--- none, it is taken as written, in that group or in the core group, the empty one (own)
+-- what a word means in that group, or in any: the least resource that it names there; a word that
+-- names none is taken as written, in that group or in the core group, the empty one (own)
 abbrev pub IsMeantIn : List Entry → Option Text → Text → Found → Type 0
 IsMeantIn entries group word found =
     IsLeastOf (IsNamedInGroup group word) entries found

@@ -11,8 +11,8 @@ use rbac_terms::Word;
 use std::alloc::{AllocError, Global};
 use std::marker::Model;
 
-/// What all API resource lists together say about the resources of a cluster. Entries of several
-/// versions with the same group and name are taken as one resource.
+/// The entries of all API resource lists together. Entries with the same group and name, from
+/// several versions, are about one resource.
 #[derive(Drop)]
 pub struct Catalogue {
     is_given: bool,
@@ -28,7 +28,7 @@ impl Model for Catalogue {
 }
 
 impl Catalogue {
-    /// The catalogue of no lists. Doesn't allocate.
+    /// A catalogue without lists. Doesn't allocate.
     pub fn new(alloc: Global) -> Self
         ensures { result ≡ record { is_given = false; entries = [] } }
     {
@@ -38,8 +38,8 @@ impl Catalogue {
         }
     }
 
-    /// Adds the entries of an API resource list, which may have none. If it runs out of memory, the
-    /// catalogue is unchanged.
+    /// Adds the entries of an API resource list, which may have none. Fails only if it runs out of
+    /// memory, and then leaves the catalogue unchanged.
     pub fn give(&mut self, entries: Entries) -> Result<(), AllocError>
         ensures ok { OnOk result
             (self.new ≡ record { is_given = true; entries = self.old.entries ++ entries }) }
@@ -64,15 +64,15 @@ impl Catalogue {
         self.entries.as_slice()
     }
 
-    /// The resource that a type word means (own). A word without a dot means the least resource, by
-    /// group and then by name, whose name, singular name or short name it is, as `po` means `pods`.
-    /// In a word with a dot, what follows the first dot is the group, and what comes before it is
-    /// looked up in that group alone, like `deploy` in `deploy.apps`. If no resource is named so,
-    /// what was looked up is taken as written, in that group or, for a word without a dot, in the
-    /// core group.
+    /// The resource that a type word means (own). A word without a dot is looked up as a name, a
+    /// singular name or a short name: `po` means `pods`. Of several resources, it means the least
+    /// by group and then by name. In a word with a dot, what follows the first dot is the group,
+    /// and the part before the dot is looked up in that group alone, like `deploy` in
+    /// `deploy.apps`. A word, or a part, that names no resource is taken as written, in that group
+    /// or, without a dot, in the core group.
     ///
     /// Subresources and entries without a name have no type words, and the empty word names
-    /// nothing. Allocates only for the result.
+    /// nothing. Allocates only for the result, and fails only if it runs out of memory.
     pub fn resolve_word(&self, alloc: Global, word: &Word) -> Result<Found, AllocError>
         ensures found { IfOk result (IsFound self.now.entries word.now) }
         ensures only { IfOk result (IsOnlyFound self.now.entries word.now) }
@@ -80,9 +80,9 @@ impl Catalogue {
         resource_meant(alloc, self.entries(), word)
     }
 
-    /// Whether the resource of that group and full text is known to be outside all namespaces
-    /// (own): it is listed, and namespaced in none of its versions. A subresource that isn't
-    /// listed, like `pods/log`, is judged by its resource, `pods`. Doesn't allocate.
+    /// Whether the resource with this group and full text is known to be cluster-scoped (own): it
+    /// is listed, and none of its versions is namespaced. A subresource that isn't listed, like
+    /// `pods/log`, is scoped like its resource, `pods`. Doesn't allocate.
     pub fn cluster_only(&self, group: &Word, text: &Word) -> bool
         ensures { IsTrue result ↔ IsClusterOnly self.now.entries group.now text.now }
     {

@@ -2,8 +2,8 @@
 
 use rbac_terms::{Items, Word, Words};
 
-/// An entry of an API resource list (Kubernetes API, APIResource). Several entries with one group
-/// and name, from several versions of the group, are about one resource.
+/// An entry of an API resource list (Kubernetes API, APIResource). Entries with the same group and
+/// name, from several versions of the group, are about one resource.
 pub struct Entry {
     /// The API group, empty for the core group.
     pub group: Word,
@@ -11,11 +11,11 @@ pub struct Entry {
     pub name: Word,
     /// The singular name, empty if there is none.
     pub singular: Word,
-    /// Short names, like `po`. An empty one names nothing.
+    /// Short names, like `po`. An empty short name names nothing.
     pub short_names: Words,
-    /// Whether its objects are in namespaces.
+    /// Whether the resource's objects are in namespaces.
     pub namespaced: bool,
-    /// The verbs that the API server supports on it.
+    /// The verbs that the API server supports for the resource.
     pub verbs: Words,
 }
 

@@ -1,5 +1,5 @@
-//! The catalogue of API resources: what API resource lists say about groups, names and scopes, and
-//! which resource a type word such as `po`, `deploy` or `deployments.apps` means.
+//! The catalogue of API resources: their groups, names and scopes, from API resource lists, and the
+//! resource that a type word such as `po`, `deploy` or `deployments.apps` means.
 #![tactic(auto)]
 
 mod catalogue;

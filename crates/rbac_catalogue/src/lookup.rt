@@ -3,7 +3,8 @@
 ghost use Rattle.std.specs.Prelude.{◌≡◌, IsTrue, ◌↔◌, IfOk, MatchOption, Any, ⊤};
 ghost use Rattle.std.specs.Option.{option_copied};
 ghost use Rattle.std.specs.declared.cmp.Ordering.TheVariants.{Less};
-ghost use Rattle.rbac_catalogue.specs.Lookups.{IsCalled, HasWords, IsNamed, IsNamedInGroup, resource_of};
+ghost use Rattle.rbac_catalogue.specs.Lookups.{IsCalled, HasWords, IsNamed, IsNamedInGroup};
+ghost use Rattle.rbac_catalogue.specs.Lookups.{resource_of};
 ghost use Rattle.rbac_catalogue.specs.Lookups.{resource_cmp, IsLeastOf, IsMeantIn, IsFound};
 
 use crate::entry::Entry;
@@ -16,7 +17,7 @@ use std::cmp::Ordering;
 pub struct Found {
     /// The API group, empty for the core group.
     pub group: Word,
-    /// The resource, like `pods`, or the word as written if it names none.
+    /// The resource, like `pods`, or the word as written if it names no resource.
     pub resource: Word,
 }
 

@@ -1,7 +1,8 @@
-//! Which resources are outside all namespaces.
+//! Which resources are cluster-scoped.
 
 ghost use Rattle.std.specs.Prelude.{IsTrue, ◌↔◌};
-ghost use Rattle.rbac_catalogue.specs.Catalogue.{IsAbout, IsListed, HasNamespacedVersion, IsClusterScoped};
+ghost use Rattle.rbac_catalogue.specs.Catalogue.{IsAbout, IsListed, HasNamespacedVersion};
+ghost use Rattle.rbac_catalogue.specs.Catalogue.{IsClusterScoped};
 ghost use Rattle.rbac_catalogue.specs.Catalogue.{IsClusterOnly};
 
 use crate::entry::Entry;
@@ -34,8 +35,8 @@ fn is_cluster_scoped(entries: &[Entry], group: &[u8], text: &[u8]) -> bool
     is_listed(entries, group, text) && !is_namespaced(entries, group, text)
 }
 
-// Whether the resource, or if it isn't listed the one that it is a subresource of, is known to be
-// outside all namespaces.
+// Whether the resource is known to be cluster-scoped. A subresource that isn't listed is scoped
+// like its resource.
 #[tactic(auto, unfolding(crate::specs::Catalogue::IsClusterOnly))]
 pub(crate) fn is_cluster_only(entries: &[Entry], group: &[u8], text: &[u8]) -> bool
     ensures { IsTrue result ↔ IsClusterOnly entries.now group.now text.now }

@@ -16,8 +16,8 @@ use Rattle.rbac_cli.specs.Meant.{IsMeant, access_meant}
 use Rattle.rbac_cli.specs.Out.{paths_text, ways_text}
 use Rattle.rbac_cli.specs.TextLines.{lines_in}
 
--- the lines of `paths` for somebody and those of `who-can --indirect` for a question agree on them: these
--- paths and ways, of which they are the lines, do about what the question means
+-- the lines of `paths` for a principal agree with those of `who-can --indirect` for a question:
+-- they are the lines of paths and ways that agree about what the question means
 pub record LinesAgree (l : LoadedView) (steps : List Step) (who : Who) (q : Question)
     (text other : Text) : Type 0 where
   pub target : What
@@ -37,6 +37,6 @@ HasPowerLine text key = Any
     (λ line. (step : Step) × BeginsWith line (field_and_tab (step_word step) ++ field_and_tab key))
     (lines_in text)
 
--- no line of `powers` is for somebody, by their own key or that of one of their groups
+-- no line of `powers` is for the key of the principal or of one of its groups
 abbrev pub HasNoPowerLine : Text → Who → Type 0
 HasNoPowerLine text who = (key : Text) → IsKeyFor who key → ¬ HasPowerLine text key

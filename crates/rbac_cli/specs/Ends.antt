@@ -1,4 +1,4 @@
--- How a run ends. `took bytes` says that the writer took exactly these bytes in the run.
+-- How a run ends. `took bytes` means that the writer took exactly these bytes in the run.
 use Rattle.std.specs.Prelude.{◌≡◌, ◌≢◌, ℕ, ◌⊎◌, Bool, true, false, List, [], length, Result, Ok}
 use Rattle.std.specs.Prelude.{Err, MatchResult}
 use Rattle.rbac_streams.specs.Taken.{counted}
@@ -22,7 +22,7 @@ use Rattle.rbac_cli.specs.declared.outcome.RunFault.TheVariants.{Load, Universe,
 abbrev pub Writes : (List ℕ → Type 0) → Exports → Action → Status → Type 0
 Writes took e action status = (text : List ℕ) × Answers e action text status × took text
 
--- the writer took a prefix of a text that the action means, and n is how many bytes that is
+-- the writer took a prefix of a text that the action means, and n is the number of its bytes
 abbrev pub WritesPrefix : (List ℕ → Type 0) → Exports → Action → ℕ → Type 0
 WritesPrefix took e action n = (text : List ℕ) × (status : Status) × Answers e action text status
     × ((prefix : List ℕ) × BeginsWith text prefix × took prefix × (n ≡ counted 0 (length prefix)))

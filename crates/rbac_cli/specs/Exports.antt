@@ -20,8 +20,8 @@ use Rattle.rbac_cli.specs.declared.exports.Exports.TheVariants.{Single, Pair}
 abbrev pub objects_of : List (List ℕ) → List Object
 objects_of inputs = objects_in (all_contents inputs)
 
--- the objects after a change of these, told by the other inputs: their own; or those that are left
--- without the objects that the first of them name, with the objects of the others put over
+-- the objects after a change of these: those of the other inputs; or these objects without those
+-- that the first n other inputs name, and then the objects of the rest
 abbrev pub objects_after : Change → List Object → List (List ℕ) → List Object
 objects_after After objects others = objects_of others
 objects_after (Over n) objects others =
@@ -31,33 +31,33 @@ objects_after (Over n) objects others =
 abbrev pub IsSide : List (List ℕ) → List Object → PolicyView → Type 0
 IsSide inputs objects p = (document_fault inputs ≡ None) × IsResolved objects p
 
--- a side of a change is refused for this fault: that of the first document that has one, or, if none
--- has, that its objects have too many grants
+-- a side of a change is refused for this fault: that of the first document that has one, or, if
+-- none has one, too many grants of its objects
 abbrev pub IsSideRefused : List (List ℕ) → List Object → LoadFault → Type 0
 IsSideRefused inputs objects fault = (document_fault inputs ≡ Some fault)
     ⊎ ((document_fault inputs ≡ None) × HasTooManyGrants objects fault)
 
--- the side before a change, and the side after it
+-- the side before a change
 abbrev pub IsSideBefore : List (List ℕ) → PolicyView → Type 0
 IsSideBefore first p = IsSide first (objects_of first) p
 
+-- the side after a change
 abbrev pub IsSideAfter : Change → List (List ℕ) → List (List ℕ) → PolicyView → Type 0
 IsSideAfter change first others p = IsSide others (objects_after change (objects_of first) others) p
 
--- a fault of inputs that stand behind so many others, with its file counted among all of them
+-- a fault of inputs that come behind n others, with its file counted among all of them
 abbrev pub behind : ℕ → LoadFault → LoadFault
 behind n fault =
     record fault { at = option_map (λ (at : At). record at { file = n + at.file }) fault.at }
 
--- a document of these inputs, which stand one behind the other, has this fault, and none before it has
--- one
+-- the fault of the first document that has one, among the first inputs and then the others
 abbrev pub IsFaultOfBoth : List (List ℕ) → List (List ℕ) → LoadFault → Type 0
 IsFaultOfBoth first others fault = (document_fault first ≡ Some fault)
     ⊎ ((document_fault first ≡ None) × ((own : LoadFault) × (document_fault others ≡ Some own)
     × (fault ≡ behind (length first) own)))
 
--- a change is refused for this fault: that of the side before it, or, if that is loaded, that of
--- the side after it, with files counted among all
+-- a change is refused for this fault: that of the side before or, if this side is loaded, that of
+-- the side after, with files counted among all
 abbrev pub IsChangeRefused : Change → List (List ℕ) → List (List ℕ) → LoadFault → Type 0
 IsChangeRefused change first others fault = IsSideRefused first (objects_of first) fault
     ⊎ (((before : PolicyView) × IsSideBefore first before) × ((own : LoadFault)

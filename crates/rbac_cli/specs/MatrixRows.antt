@@ -9,7 +9,7 @@ use Rattle.rbac_matrix.specs.declared.row.Row.{Row}
 use Rattle.rbac_cli.specs.declared.matrix_rows.MatrixRows.{MatrixRows}
 use Rattle.rbac_cli.specs.declared.matrix_rows.MatrixRows.TheVariants.{First, Every}
 
--- it lists every binding that grants a request, and not the first alone
+-- the rows list every binding that grants a request, and not the first alone
 abbrev pub is_every_of : MatrixRows → Bool
 is_every_of (First rows) = false
 is_every_of (Every rows) = true
@@ -24,11 +24,12 @@ abbrev pub IsOpenAt : MatrixRows → Type 0
 IsOpenAt (First rows) = IsGoing rows
 IsOpenAt (Every rows) = IsGoingEvery rows
 
--- at most as many rows are left
+-- no more rows than this are left
 abbrev pub most_rows : MatrixRows → ℕ
 most_rows (First rows) = requests_left rows
 most_rows (Every rows) = pairs_left rows
 
+-- no more rows than this are left, as a count
 abbrev pub rows_at_most : MatrixRows → Count
 rows_at_most left = at_most (most_rows left)
 

@@ -28,14 +28,14 @@ IsTargetMeant entries (ForResource word subresource name) target =
     (found : Found) × IsFound entries word found
     × (target ≡ Resource found.group (with_subresource found.resource subresource) name)
 
--- a target is asked for outside all namespaces: it is known to be there, and `--in-namespace` isn't
--- given (own)
+-- a target is asked for outside all namespaces: it is cluster-scoped in the catalogue, and
+-- `--in-namespace` isn't given (own)
 abbrev pub IsOutside : List Entry → Question → What → Type 0
 IsOutside entries q target = (q.in_namespace ≡ false)
     × IsClusterOnly entries (group_of target) (text_of target)
 
--- where it is asked for: in no namespace if it is asked for outside all namespaces, otherwise in the
--- one given (own)
+-- the namespace of a question: the empty one if the target is asked for outside all namespaces,
+-- otherwise the one given (own)
 abbrev pub IsNamespaceMeant : List Entry → Question → What → Text → Type 0
 IsNamespaceMeant entries q target namespace =
     (IsOutside entries q target × (namespace ≡ []))
@@ -46,7 +46,7 @@ abbrev pub IsMeant : List Entry → Question → What → Text → Type 0
 IsMeant entries q target namespace = IsTargetMeant entries q.asked target
     × IsNamespaceMeant entries q target namespace
 
--- what is asked for, where the question means that target and namespace
+-- what is asked for by a question that means this target and namespace
 abbrev pub access_meant : Question → What → Text → AccessView
 access_meant q target namespace =
     record { namespace = namespace; verb = q.verb; target = target }
@@ -62,8 +62,8 @@ abbrev pub scope_given : Bool → Text → Scope
 scope_given true namespace = Anywhere
 scope_given false namespace = Namespace namespace
 
--- where holders are asked for: outside all namespaces if the target is, which is in the empty one;
--- otherwise where they may be (own)
+-- where holders are asked for: in the empty namespace if the target is asked for outside all
+-- namespaces, otherwise where the options ask (own)
 abbrev pub IsScopeMeant : List Entry → Question → Bool → What → Scope → Type 0
 IsScopeMeant entries q anywhere target scope =
     (IsOutside entries q target × (scope ≡ Namespace []))

@@ -64,7 +64,7 @@ IsDenied held entries who q =
     (target : What) × (namespace : Text) × IsMeant entries q target namespace
     × (¬ Allows held who namespace q.verb target)
 
--- the line that explains a yes: the least grant that allows it, and the least subject of its
+-- the line that explains a yes: the first grant that allows it, and the first subject of its
 -- binding that names who asks
 abbrev pub IsWhyText : PolicyView → List Entry → Who → Question → Text → Type 0
 IsWhyText p entries who q text =
@@ -79,7 +79,7 @@ ComesAfterYes p entries who false true q text = IsWhyText p entries who q text
 ComesAfterYes p entries who false false q text = text ≡ []
 ComesAfterYes p entries who true why q text = text ≡ []
 
--- the line of a rule that somebody has
+-- the line of a rule that a principal has
 abbrev pub effective_line : RuleView → Text
 effective_line x = grant_text x.grant x.subject_place
 
@@ -100,7 +100,7 @@ finding_line f = finding_text f.code f.object f.place f.other
 abbrev pub findings_text : List Finding → Text
 findings_text found = flat_map finding_line found
 
--- 1 if anything is found (own)
+-- the status of `lint`: 1 if anything is found, otherwise 0 (own)
 abbrev pub findings_status : List Finding → Status
 findings_status [] = Zero
 findings_status (f ∷ found) = One
@@ -121,20 +121,21 @@ ways_text xs = flat_map way_text xs
 abbrev pub changes_text : List ChangeView → Text
 changes_text xs = flat_map change_text xs
 
--- 1 if anything changes (diff(1))
+-- the status of `diff`: 1 if anything changes, otherwise 0 (diff(1))
 abbrev pub changes_status : List ChangeView → Status
 changes_status [] = Zero
 changes_status (x ∷ xs) = One
 
 -- the text and the status that an action means over what was loaded: `can-i` answers `yes` and 0,
 -- or `no` and 1 (kubectl auth can-i); `who-can` answers a line for each holder, and 0, or with
--- `--indirect` a line for each node from which the steps that are asked for, or none, lead to one that
--- allows what is asked, and 0 (own); `rules` a line for each rule that somebody has, and 0 (own);
+-- `--indirect` a line for each node from which the given steps, or none, lead to one that allows
+-- what is asked, and 0 (own); `rules` a line for each rule that the principal has, and 0 (own);
 -- `matrix` a page of the rows that are listed over a universe of the lists, and 0 (own); `universe`
--- the Universe document of the lists, and 0 (own); `lint` a line for each finding that is asked for,
--- and 1 if there is one (own); `powers` a line for each step that a user or a group can take, and 0
--- (own); `paths` a line for each node that somebody comes to by the steps that are asked for, and 0
--- (own); `diff` a line for each change from the first policy to the second, and 1 if there is one (own)
+-- the Universe document of the lists, and 0 (own); `lint` a line for each finding that is asked
+-- for, and 1 if there is one, otherwise 0 (own); `powers` a line for each step that a user or a
+-- group can take, and 0 (own); `paths` a line for each node that the principal comes to by the
+-- given steps, and 0 (own); `diff` a line for each change from the first policy to the second, and
+-- 1 if there is one, otherwise 0 (own)
 abbrev pub Answers : Exports → Action → List ℕ → Status → Type 0
 Answers (Single l) (CanI who quiet why q) text status =
     (IsAllowed l.policy.held l.catalogue.entries who q
@@ -166,7 +167,8 @@ Answers (Single l) (Matrix options after limit) text status =
 Answers (Single l) Universe text status = IsDocument l.lists text × (status ≡ Zero)
 Answers (Single l) (Lint only skip_system) text status =
     (found : List Finding)
-    × AreWanted (wanted_meant (option_map vec_items only) skip_system) l.policy.held l.replaced found
+    × AreWanted (wanted_meant (option_map vec_items only) skip_system) l.policy.held l.replaced
+    found
     × (text ≡ findings_text found) × (status ≡ findings_status found)
 Answers (Single l) Powers text status =
     (xs : List PowerView) × ArePowers l.policy xs × (text ≡ powers_text xs) × (status ≡ Zero)

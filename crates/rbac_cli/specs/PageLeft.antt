@@ -33,18 +33,20 @@ IsRestOfPage page text =
     × AreLeftIn page.left rows
     × (text ≡ text_after (is_every page.left) row (cut_at page.limit rows))
 
--- these lines are left: none after the last
+-- these lines are left: none once the last line was printed
 abbrev pub is_left : Bool → PageLines → Text → Type 0
 is_left true page text = text ≡ []
 is_left false page text = IsRestOfPage page text
 
+-- these lines of the page are left
 abbrev pub IsPageLeft : PageLines → Text → Type 0
 IsPageLeft page text = is_left page.has_ended page text
 
--- at most so many lines are left
+-- no more lines than this are left: the rows and the last line, or none once it was printed
 abbrev pub lines_before : Bool → ℕ → ℕ
 lines_before true rows = 0
 lines_before false rows = rows + 1
 
+-- no more lines of the page than this are left
 abbrev pub most_lines : PageLines → ℕ
 most_lines page = lines_before page.has_ended (most_left page.left)

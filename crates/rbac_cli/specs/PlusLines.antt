@@ -1,4 +1,4 @@
--- What the lines of a `diff` tell.
+-- Lines of a `diff` that begin with `+`.
 use Rattle.std.specs.Prelude.{Any, codes}
 use Rattle.rbac_terms.specs.Text.{Text, BeginsWith}
 use Rattle.rbac_cli.specs.TextLines.{lines_in}

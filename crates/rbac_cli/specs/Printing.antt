@@ -24,11 +24,12 @@ abbrev pub GivesLine : {L : Type 0} → (L → Text → Type 0) → (L → Type 
     → Bool → Type 0
 GivesLine are_left is_open most_left old line new true =
     is_open new × (most_left new < most_left old)
-    × ((text : Text) → are_left old text → (rest : Text) × (text ≡ line ++ rest) × are_left new rest)
+    × ((text : Text) → are_left old text
+    → (rest : Text) × (text ≡ line ++ rest) × are_left new rest)
 GivesLine are_left is_open most_left old line new false =
     (text : Text) → are_left old text → text ≡ []
 
--- it borrows the same sink and the same page as before
+-- the output borrows the same sink and the same page as before
 abbrev pub BorrowsTheSame : {W : Type 0} → Output W → Output W → Type 0
 BorrowsTheSame old new = (new.sink.ghost_name ≡ old.sink.ghost_name)
     × (new.page.ghost_name ≡ old.page.ghost_name)
@@ -75,14 +76,14 @@ is_sink_fault (Ok x) = false
 is_sink_fault (Err print.SinkFailed) = true
 is_sink_fault (Err print.NoMemory) = false
 
--- it was the sink that stopped the answer
+-- the sink stopped the answer
 abbrev pub is_sink_stop : {T : Type 0} → Result T Stop → Bool
 is_sink_stop (Ok x) = false
 is_sink_stop (Err (NoUniverse fault)) = false
 is_sink_stop (Err NoMemory) = false
 is_sink_stop (Err SinkFailed) = true
 
--- how printing an answer ends; the sink failed exactly if it was the sink that stopped the answer
+-- how printing an answer ends; the sink failed exactly if the sink stopped the answer
 pub record EndsPrinting {W : Type 0} (contents : W → Option (List ℕ)) (old new : Output W)
     (e : Exports) (action : Action) (ended : Result Status Stop) : Type 0 where
   pub ends : MatchResult ended (PrintsAnswer contents old new e action)
@@ -96,12 +97,13 @@ fault_at page (NoUniverse fault) = Universe fault
 fault_at page NoMemory = Memory page.written
 fault_at page SinkFailed = Write page.written
 
--- what a page's fault stops, and what stops an answer whose lists make no universe; out of memory is
--- the same wherever it comes from
+-- what stops an answer that a page couldn't print
 abbrev pub print_stop : PrintFault → Stop
 print_stop print.SinkFailed = SinkFailed
 print_stop print.NoMemory = NoMemory
 
+-- what stops an answer whose lists make no universe; out of memory is the same wherever it comes
+-- from
 abbrev pub universe_stop : UniverseFault → Stop
 universe_stop universe.BadTarget = NoUniverse universe.BadTarget
 universe_stop universe.TooLarge = NoUniverse universe.TooLarge

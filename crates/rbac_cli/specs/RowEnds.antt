@@ -8,17 +8,19 @@ use Rattle.rbac_matrix.specs.RowTexts.{texts_shown}
 use Rattle.rbac_matrix.specs.declared.row.Row.{Row}
 use Rattle.rbac_cli.specs.declared.row_ends.RowEnds.{RowEnds}
 
--- what stands on a row's line before its target, and after it
+-- the text of a row's line before its target
 abbrev pub front_text : KeyTexts → Text
 front_text k = field_and_tab k.principal ++ field_and_tab k.namespace ++ field_and_tab k.verb
 
+-- the text of a row's line after its target
 abbrev pub back_text : Binding → Text
 back_text b = binding_text b ++ newline ∷ []
 
--- the text is that of the row before its target, or after it, if there is a row
+-- the text is that of the row's line before its target, if there is a row
 abbrev pub IsFrontOf : Option Row → Text → Type 0
 IsFrontOf row text = IfSome row (λ r. text ≡ front_text (texts_shown r))
 
+-- the text is that of the row's line after its target, if there is a row
 abbrev pub IsBackOf : Option Row → Text → Type 0
 IsBackOf row text = IfSome row (λ r. text ≡ back_text r.binding.now)
 

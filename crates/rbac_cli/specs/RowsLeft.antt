@@ -8,7 +8,7 @@ use Rattle.rbac_cli.specs.MatrixPage.{rows_listed}
 use Rattle.rbac_cli.specs.MatrixRows.{AreRowsLeft, IsOpenAt, is_every_of, most_rows}
 use Rattle.rbac_cli.specs.declared.rows_left.RowsLeft.{RowsLeft}
 
--- it lists every binding that grants a request, and not the first alone
+-- the rows list every binding that grants a request, and not the first alone
 abbrev pub is_every : RowsLeft → Bool
 is_every left = is_every_of left.rows
 
@@ -21,10 +21,11 @@ AreLeftIn left all = (rows : List RowView) × AreRowsLeft left.rows rows
 abbrev pub IsOpen : RowsLeft → Type 0
 IsOpen left = IsOpenAt left.rows
 
--- at most as many rows are left
+-- no more rows than this are left
 abbrev pub most_left : RowsLeft → ℕ
 most_left left = most_rows left.rows
 
+-- no more rows than this are left, as a count
 abbrev pub rows_left_at_most : RowsLeft → Count
 rows_left_at_most left = at_most (most_left left)
 

@@ -1,4 +1,4 @@
--- The texts that say why a run stopped, as they are printed (own).
+-- The texts of why a run stopped, as they are printed (own).
 use Rattle.std.specs.Prelude.{ℕ, List, ◌++◌, codes}
 use Rattle.std.specs.Fmt.{decimal}
 use Rattle.rbac_manifest.specs.FaultTexts.{fault_text}

@@ -8,7 +8,7 @@ use Rattle.rbac_matrix.specs.Every.{marked_name}
 use Rattle.rbac_matrix.specs.RowTexts.{texts_shown}
 use Rattle.rbac_matrix.specs.declared.row.Row.{Row}
 
--- the mark after which a matrix goes on behind the row: its key, or with `--every` its key and
+-- the mark with which the next page begins after the row: its key, or with `--every` its key and
 -- its binding
 abbrev pub mark_shown : Bool → Row → Mark
 mark_shown false row = record { key = texts_shown row; binding = None }

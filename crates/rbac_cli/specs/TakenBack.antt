@@ -1,4 +1,4 @@
--- Exports of which a matrix lists the same.
+-- Exports that have the same matrix.
 use Rattle.std.specs.Prelude.{◌↔◌, ℕ, List, Option}
 use Rattle.rbac_universe.specs.declared.fault.UniverseFault.{UniverseFault}
 use Rattle.rbac_manifest.specs.Load.{LoadedView}
@@ -14,7 +14,8 @@ use Rattle.rbac_cli.specs.declared.outcome.Status.{Status}
 -- same fault
 pub record HaveOneMatrix (l m : LoadedView) : Type 0 where
   pub answers : (options : MatrixOptions) (after : Option Mark) (limit : Option ℕ)
-      (text : List ℕ) (status : Status) → Answers (Single l) (Matrix options after limit) text status
+      (text : List ℕ) (status : Status)
+      → Answers (Single l) (Matrix options after limit) text status
       ↔ Answers (Single m) (Matrix options after limit) text status
   pub lacks : (options : MatrixOptions) (after : Option Mark) (limit : Option ℕ)
       (fault : UniverseFault) → LacksUniverse (Single l) (Matrix options after limit) fault

@@ -19,6 +19,7 @@ verdict_text false why None = word_line (codes "no")
 verdict_text false true (Some found) = word_line (codes "yes") ++ found_text found
 verdict_text false false (Some found) = word_line (codes "yes")
 
+-- the status of a verdict: 0 for a yes, 1 for a no
 abbrev pub verdict_status : Option Why → Status
 verdict_status None = One
 verdict_status (Some found) = Zero

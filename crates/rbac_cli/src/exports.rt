@@ -7,7 +7,8 @@ ghost use Rattle.rbac_manifest.specs.Load.{IsLoaded, HasFault, HasTooManyGrants,
 ghost use Rattle.rbac_manifest.specs.declared.fault.Cause.TheVariants.{NoMemory};
 ghost use Rattle.rbac_question.specs.declared.command.Action.TheVariants.{Diff};
 ghost use Rattle.rbac_cli.specs.Exports.{AreLoaded, AreInputsRefused, IsSideBefore, IsSideAfter};
-ghost use Rattle.rbac_cli.specs.Exports.{IsChangeRefused, IsFaultOfBoth, behind, objects_after, objects_of};
+ghost use Rattle.rbac_cli.specs.Exports.{IsChangeRefused, IsFaultOfBoth, behind, objects_after};
+ghost use Rattle.rbac_cli.specs.Exports.{objects_of};
 ghost use Rattle.rbac_cli.specs.Ends.{FailsToLoad};
 
 use crate::outcome::RunFault;
@@ -36,8 +37,8 @@ impl Drop for Exports {
     }
 }
 
-/// Loads the inputs of an action: of `diff` those before the change by themselves, and then what is
-/// after it; otherwise all together.
+/// Loads the inputs of an action: for `diff` the side before the change and then the side after it;
+/// otherwise all inputs together.
 pub(crate) fn exports_from(
     alloc: Global,
     action: &Action,
@@ -59,7 +60,7 @@ fn export_from(alloc: Global, inputs: &[Input]) -> Result<Export, RunFault>
     load_export(alloc, inputs).map_err(unloaded)
 }
 
-// Loads both sides of a change, of which the first inputs tell what was before.
+// Loads both sides of a change. The first `before` inputs are the side before.
 fn pair_from(
     alloc: Global,
     before: usize,
@@ -76,7 +77,7 @@ fn pair_from(
     }
 }
 
-// The policies before and after a change. What is wrong with the side before comes first.
+// The policies before and after a change. A fault of the side before comes first.
 fn sides_of(
     alloc: Global,
     change: Change,
@@ -163,7 +164,7 @@ fn changed_over(
     }
 }
 
-// A fault of inputs with so many before them.
+// A fault of inputs that come behind `before` others.
 fn moved_behind(before: usize, fault: LoadFault) -> LoadFault
     requires { IfSome fault.at (λ at. before + at.file < 2 ^ 64) }
     ensures { result ≡ behind before fault }
@@ -181,7 +182,7 @@ fn moved_behind(before: usize, fault: LoadFault) -> LoadFault
     }
 }
 
-// Why a run stops if its inputs fail to load. Out of memory is a fault of its own.
+// Why a run stops if its inputs fail to load. Out of memory has a variant of its own.
 fn unloaded(fault: LoadFault) -> RunFault
     ensures refused { fault.cause ≢ Cause.NoMemory → result ≡ RunFault.Load fault }
     ensures memory { fault.cause ≡ Cause.NoMemory → result ≡ RunFault.Memory 0 }

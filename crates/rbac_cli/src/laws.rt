@@ -1,7 +1,8 @@
 //! Laws of answers and of runs: what follows from the definitions alone. The functions do little or
 //! nothing; their contracts are the laws.
 
-ghost use Rattle.std.specs.Prelude.{◌≡◌, ◌↔◌, ◌++◌, ◌∷◌, [], Contains, List, ℕ, Result, Vec, vec_items};
+ghost use Rattle.std.specs.Prelude.{◌≡◌, ◌↔◌, ◌++◌, ◌∷◌, [], Contains, List, ℕ};
+ghost use Rattle.std.specs.Prelude.{Result, Vec, vec_items};
 ghost use Rattle.std.specs.Global.{Global};
 ghost use Rattle.rbac_terms.specs.Principals.{Who};
 ghost use Rattle.rbac_model.specs.Policies.{PolicyView};
@@ -40,8 +41,8 @@ use rbac_paths::{
 use rbac_universe::universes_have_no_fault;
 use std::io::Write;
 
-/// Over what was loaded, an action means at most one text and one status, so everyone who runs a
-/// command over the same inputs reads the same answer (own).
+/// Over what was loaded, an action means at most one text and one status: whoever runs a command
+/// over the same inputs reads the same answer (own).
 pub fn answers_are_one()
     ensures { (e : Exports) (action : Action) (text other : List ℕ) (status ending : Status)
         → Answers e action text status
@@ -75,8 +76,9 @@ pub fn runs_are_one<V: Write, W: Write>()
     ways_are_one();
 }
 
-/// No line of a `diff` begins with `+` exactly if every request of every user, in every namespace,
-/// with every verb, on every proper target, that after allows, before allows too (own).
+/// No line of a `diff` begins with `+` exactly if the side before allows every request that the
+/// side after allows: of every user, in every namespace, with every verb, on every proper target
+/// (own).
 pub fn plus_lines_tell_all()
     ensures { (n : ℕ) (change : Change) (inputs : List (List ℕ)) (before after : PolicyView)
         (text : List ℕ) (status : Status) → AreLoaded (Diff n change) inputs (Pair before after)
@@ -86,9 +88,9 @@ pub fn plus_lines_tell_all()
     changes_tell_all();
 }
 
-/// The document that `universe` prints is accepted behind the inputs that it was printed of, and a
-/// matrix over all of these lists what a matrix over the inputs alone lists (own). JSON has to be able
-/// to carry the words of the lists: they are UTF-8, and no principal's name is empty.
+/// The document that `universe` prints for inputs is accepted behind these inputs, and a matrix
+/// over all of them lists the same as a matrix over the inputs alone (own). JSON has to be able to
+/// carry the words of the lists: they are UTF-8, and no principal's name is empty.
 pub fn universes_are_taken_back()
     ensures { (inputs : List (List ℕ)) (l : LoadedView) (text : List ℕ) (status : Status)
         → IsLoaded inputs l → AreReadable l.lists → Answers (Single l) Universe text status
@@ -98,10 +100,10 @@ pub fn universes_are_taken_back()
     once_each_is_the_same_universe();
 }
 
-/// By the same steps, `who-can --indirect` lists a user or a group that a binding or a ServiceAccount
-/// object names exactly if they are allowed what is asked, or `paths` of them, without given groups,
-/// lists a node that is; and with the fewest steps to such a node, or none if they are allowed it
-/// themselves (own).
+/// Of the principals that a binding or a ServiceAccount object names, `who-can --indirect` lists
+/// one exactly if it is allowed what is asked, or if `paths` for it, by the same steps and without
+/// given groups, lists a node that is allowed it. Its line has the least number of steps to such a
+/// node, or 0 if the principal itself is allowed it (own).
 pub fn indirect_answers_agree_with_paths()
     ensures { (inputs : List (List ℕ)) (l : LoadedView) (who : Who) (steps others : Vec Step Global)
         (q : Question) (text other : List ℕ) (status ending : Status) → IsLoaded inputs l
@@ -113,8 +115,8 @@ pub fn indirect_answers_agree_with_paths()
     ways_agree_with_paths();
 }
 
-/// Without a line of `powers` for somebody, by their own key or that of one of their groups, `paths` of
-/// them has no line, whichever steps count (own).
+/// If no line of `powers` has the key of a principal or of one of its groups, `paths` for this
+/// principal has no line, whichever steps count (own).
 pub fn no_paths_without_powers()
     ensures { (inputs : List (List ℕ)) (l : LoadedView) (who : Who) (steps : Vec Step Global)
         (text other : List ℕ) (status ending : Status) → IsLoaded inputs l

@@ -22,7 +22,7 @@ pub(crate) trait Lines {
     // what holds between two calls
     ghost is_open: { Self → Type 0 } = { λ _. Unit {0} };
 
-    // at most so many lines are left
+    // no more lines than this are left
     ghost most_left: { Self → ℕ };
 
     /// Puts the next line into `line`, which is empty, or answers `false` if none is left.

@@ -16,8 +16,8 @@ use rbac_text::put_finding;
 use std::alloc::{AllocError, Global};
 use std::io::Write;
 
-/// Prints what lint finds in what was loaded, a line for each finding that is asked for: of these
-/// codes, if there is a list, and with `skip_system` not about Kubernetes' own objects.
+/// Prints a line for each finding that is asked for: of the codes in `only`, if it is given, and
+/// with `skip_system` not about Kubernetes' own objects.
 pub(crate) fn print_findings<W: Write + Drop>(
     alloc: Global,
     export: &Export,

@@ -27,10 +27,10 @@ use rbac_universe::{Universe, UniverseFault};
 use std::alloc::{AllocError, Global};
 use std::io::Write;
 
-/// Prints a page of the matrix of what was loaded: a line for each row that comes after the mark,
-/// at most as many as the limit says, and a last line that says whether more follow. With
-/// `options.every` each binding that grants a request has a row, otherwise the first alone; with
-/// `options.once` rows that have a namespace and a ClusterRoleBinding are left out.
+/// Prints a page of the matrix of what was loaded: a line for each row after the mark, at most as
+/// many as the limit, and a last line: `next` and a token if more rows follow, otherwise `end`.
+/// With `options.every` each binding that grants a request has a row, otherwise the first alone;
+/// with `options.once` rows that have a namespace and a ClusterRoleBinding are left out.
 pub(crate) fn print_matrix<W: Write + Drop>(
     alloc: Global,
     export: &Export,

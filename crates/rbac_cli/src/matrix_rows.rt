@@ -6,7 +6,8 @@ ghost use Rattle.std.specs.Option.{option_copied};
 ghost use Rattle.rbac_model.specs.Universes.{RowView};
 ghost use Rattle.rbac_matrix.specs.Lent.{AreLent};
 ghost use Rattle.rbac_matrix.specs.Once.{PassesRepeats};
-ghost use Rattle.rbac_cli.specs.MatrixRows.{AreRowsLeft, GivesNextRow, IsOpenAt, is_every_of, most_rows};
+ghost use Rattle.rbac_cli.specs.MatrixRows.{AreRowsLeft, GivesNextRow, IsOpenAt, is_every_of};
+ghost use Rattle.rbac_cli.specs.MatrixRows.{most_rows};
 ghost use Rattle.rbac_cli.specs.MatrixRows.{rows_at_most};
 ghost use Rattle.rbac_cli.specs.MatrixPage.{AreRows, rows_past};
 
@@ -57,7 +58,7 @@ impl<'r, 'm> MatrixRows<'r, 'm> {
         }
     }
 
-    /// Passes rows that are repeats, up to the next row that is none; all rows, if there is none.
+    /// Passes over repeats, up to the next row that isn't one; over all rows, if every row is one.
     pub(crate) fn pass_repeats(&mut self)
         requires { IsOpenAt self.old }
         ensures going { IsOpenAt self.new }

@@ -18,7 +18,7 @@ use std::alloc::{AllocError, Global};
 pub(crate) struct Meant {
     pub(crate) target: Target,
     pub(crate) namespace: Word,
-    // Whether it is asked for outside all namespaces.
+    // Whether the target is asked for outside all namespaces.
     pub(crate) is_outside: bool,
 }
 
@@ -105,8 +105,8 @@ fn resource_text(alloc: Global, resource: &[u8], subresource: &[u8]) -> Result<W
     Ok(text)
 }
 
-// Whether a target is asked for outside all namespaces (own): the catalogue knows it to be there, and
-// it isn't to be asked for in a namespace all the same.
+// Whether a target is asked for outside all namespaces (own): it is cluster-scoped in the
+// catalogue, and `--in-namespace` isn't given.
 fn is_outside(catalogue: &Catalogue, question: &Question, target: &Target) -> bool
     ensures { IsTrue result ↔ IsOutside catalogue.now.entries question.now target.now }
 {

@@ -8,7 +8,7 @@ use std::fmt;
 /// The exit status of a run that gave its answer.
 #[derive(Clone, Copy, Debug, PartialEq, Eq)]
 pub enum Status {
-    /// 0: `yes`, all holders or rules, a page of the matrix, a universe, no findings, or no changes.
+    /// 0: `yes`, no findings, no changes, or the answer of any other command.
     Zero,
     /// 1: `no`, findings, or changes.
     One,
@@ -20,7 +20,7 @@ pub enum RunFault {
     /// The inputs were refused, and nothing was written.
     Load(LoadFault),
     /// The lists that were loaded make no universe for a matrix, and nothing was written. Out of
-    /// memory is a fault of its own.
+    /// memory is `Memory`.
     Universe(UniverseFault),
     /// Out of memory after this many bytes were written, at most `u128::MAX`.
     Memory { written: u128 },

@@ -117,7 +117,7 @@ fn put_token(token: &Word, line: &mut Vec<u8>) -> Result<(), AllocError>
     Ok(())
 }
 
-// The token of the mark after which a matrix goes on behind a row.
+// The token with which the next page begins after a row.
 fn token_of(alloc: Global, every: bool, row: Row<'_>) -> Result<Word, Stop>
     ensures { IfOk result (λ token. token ≡ mark_text (mark_shown every row.entry)) }
 {
@@ -125,8 +125,8 @@ fn token_of(alloc: Global, every: bool, row: Row<'_>) -> Result<Word, Stop>
     Ok(token_of_mark(alloc, &mark)?)
 }
 
-// The mark after which a matrix goes on behind a row: its key, and its binding's name if every
-// binding is listed.
+// The mark with which the next page begins after a row: the row's key, and its binding's name if
+// every binding is listed.
 fn mark_of(alloc: Global, every: bool, row: Row<'_>) -> Result<Mark, Stop>
     ensures { IfOk result (λ mark. mark ≡ mark_shown every row.entry) }
 {

@@ -1,4 +1,4 @@
-//! Whom and what somebody comes to, as an answer.
+//! Whom and what a principal comes to, as an answer.
 
 ghost use Rattle.std.specs.Prelude.{◌≡◌, ◌↔◌, Contains, IfOk, Vec, false, vec_items};
 ghost use Rattle.std.specs.Global.{Global};

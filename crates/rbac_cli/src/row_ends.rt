@@ -11,9 +11,10 @@ use rbac_text::{put_binding, put_field_and_tab};
 use std::alloc::{AllocError, Global};
 
 /// How the line of a row begins and ends: with its principal, namespace and verb, and with its
-/// binding. Most rows have those of the row before, so these are printed once for all of them.
+/// binding. Most rows share these with the row before, so the texts are made again only when they
+/// change.
 pub(crate) struct RowEnds {
-    // What stands before the row's target, and after it.
+    // The text before the row's target, and the text after it.
     front: Vec<u8>,
     back: Vec<u8>,
 }
@@ -35,7 +36,7 @@ impl RowEnds {
         }
     }
 
-    // Makes the ends of the last row's line, if there is one, those of this row's.
+    // Turns the ends of the last row's line, if there is one, into those of this row's line.
     pub(crate) fn renew(&mut self, last: Option<Row<'_>>, row: Row<'_>) -> Result<(), AllocError>
         requires { AreEndsOf last self.old }
         ensures { OnOk result (AreEndsOf (Some row.entry) self.new) }
@@ -59,7 +60,8 @@ impl RowEnds {
     }
 }
 
-// Makes what stands before the last row's target, if there is one, what stands before this row's.
+// Turns the text before the last row's target, if there is one, into the text before this row's
+// target.
 fn renew_front(front: &mut Vec<u8>, last: Option<Row<'_>>, row: Row<'_>) -> Result<(), AllocError>
     requires { IsFrontOf last front.old.items }
     ensures { OnOk result (front.new.items ≡ front_text (texts_shown row.entry)) }
@@ -75,7 +77,7 @@ fn renew_front(front: &mut Vec<u8>, last: Option<Row<'_>>, row: Row<'_>) -> Resu
     put_field_and_tab(front, row.verb.as_bytes())
 }
 
-// Whether both rows have one principal, namespace and verb.
+// Whether both rows have the same principal, namespace and verb.
 fn is_of_line(last: Row<'_>, row: Row<'_>) -> bool
     ensures { IsTrue result
         → front_text (texts_shown last.entry) ≡ front_text (texts_shown row.entry) }
@@ -86,7 +88,8 @@ fn is_of_line(last: Row<'_>, row: Row<'_>) -> bool
     last.namespace == row.namespace && last.principal == row.principal
 }
 
-// Makes what stands after the last row's target, if there is one, what stands after this row's.
+// Turns the text after the last row's target, if there is one, into the text after this row's
+// target.
 fn renew_back(back: &mut Vec<u8>, last: Option<Row<'_>>, row: Row<'_>) -> Result<(), AllocError>
     requires { IsBackOf last back.old.items }
     ensures { OnOk result (back.new.items ≡ back_text row.entry.binding.now) }
@@ -102,7 +105,7 @@ fn renew_back(back: &mut Vec<u8>, last: Option<Row<'_>>, row: Row<'_>) -> Result
     Ok(())
 }
 
-// Whether both bindings have one name, and one namespace or none.
+// Whether both bindings have the same name, and the same namespace or none.
 fn is_named_alike(last: &Binding, binding: &Binding) -> bool
     ensures { IsTrue result → back_text last.now ≡ back_text binding.now }
 {

@@ -1,4 +1,4 @@
-//! The rules that somebody has, as an answer.
+//! The rules that a principal has, as an answer.
 
 ghost use Rattle.std.specs.Prelude.{◌≡◌, false};
 ghost use Rattle.rbac_question.specs.declared.command.Action.TheVariants.{Rules as ListsRules};

@@ -20,20 +20,21 @@ use std::io::Write;
 ///
 /// For a matrix it writes exactly one line for each request of the universe that is allowed and
 /// whose key is greater than the token's, in key order, each with the first binding that grants it,
-/// cut at the limit, and then a line that says whether more follow. With `--every` there is one
-/// line for each pair of a request and a binding that grants it, if the pair's row comes after the
-/// token's mark. With `--once` rows that have a namespace and a ClusterRoleBinding are left out.
+/// up to the limit. A last line follows: `next` and a token if there are more rows, otherwise
+/// `end`. With `--every` there is one line for each pair of a request and a binding that grants it,
+/// if the pair's row comes after the token's mark. With `--once` rows that have a namespace and a
+/// ClusterRoleBinding are left out.
 ///
-/// For `who-can --indirect` it writes exactly one line for each node from which a list of steps, also
-/// an empty one, leads to a node that allows what is asked for. The nodes are the users and groups
-/// that bindings and ServiceAccount objects name, and whom and what they come to by these steps.
+/// For `who-can --indirect` it writes exactly one line for each node from which steps, or none,
+/// lead to a node that allows what is asked for. The nodes are the users and groups that bindings
+/// and ServiceAccount objects name, and whom and what they come to by these steps.
 ///
-/// For a `diff` the first inputs tell what was before a change. The others tell what is after it, or
-/// which objects it takes away and which it puts over.
+/// For a `diff` the first inputs are the side before a change. The others are the side after it, or
+/// the objects that the change takes away, and then those that it puts over.
 ///
 /// Refuses inputs that [`load`] refuses and, for a matrix, those whose lists make no universe;
 /// nothing is written then. If it runs out of memory or a write fails, what was written is a prefix
-/// of the answer, and the fault says how long that prefix is.
+/// of the answer, and the fault has the number of its bytes.
 #[tactic(auto, using(crate::proofs::Loads::ended))]
 pub fn run<W: Write + Drop>(
     alloc: Global,
@@ -57,7 +58,7 @@ pub fn run<W: Write + Drop>(
 /// Like [`run`], but with a writer that shows its bytes: a vector. This contract follows from the
 /// contract of `run` alone.
 ///
-/// Here the contract says plainly which bytes a run writes. Standard output doesn't show its bytes;
+/// This contract states which bytes a run writes. Contracts can't see the bytes of standard output:
 /// for it the same holds as far as its calls take the bytes that they report as taken.
 pub fn run_into(
     alloc: Global,
@@ -89,7 +90,8 @@ fn write_answer<W: Write + Drop>(
     requires empty { output.old.page.now.written ≡ 0 }
     ensures ends { MatchResult result
         (Writes (Took W.contents output.old.sink.now output.new.sink.now) exports.now action.now)
-        (StopsWith (Took W.contents output.old.sink.now output.new.sink.now) exports.now action.now) }
+        (StopsWith (Took W.contents output.old.sink.now output.new.sink.now) exports.now
+        action.now) }
     ensures failed { output.new.sink.now.has_failed ≡ is_write_fault result }
     ensures same { BorrowsTheSame output.old output.new }
 {

@@ -11,10 +11,10 @@ use rbac_token::TokenFault;
 use rbac_universe::UniverseFault;
 use std::alloc::{AllocError, AllocFailed};
 
-/// What stops an answer. How much was written by then is the page's to say: see [`Stop::fault`].
+/// What stops an answer. The page knows how much was written by then: see [`Stop::fault`].
 #[derive(Clone, Copy, Drop)]
 pub(crate) enum Stop {
-    /// The lists that were loaded make no universe. Out of memory isn't among these faults.
+    /// The lists that were loaded make no universe. Out of memory is `NoMemory`.
     NoUniverse(UniverseFault),
     /// Out of memory.
     NoMemory,
@@ -23,7 +23,7 @@ pub(crate) enum Stop {
 }
 
 impl Stop {
-    // The fault of a run that this stopped, whose page knows how much was written.
+    // The fault of a run that was stopped so. The page knows how much was written.
     pub(crate) fn fault(self, page: &Page) -> RunFault
         ensures { result ≡ fault_at page.now self }
     {
@@ -102,7 +102,7 @@ impl From<MatrixFault> for Stop {
     }
 }
 
-// A token that is made, and not read, fails only for want of memory.
+// Making a token, unlike reading one, fails only if it runs out of memory.
 impl From<TokenFault> for Stop {
     ghost use Rattle.rbac_cli.specs.declared.stop.Stop.TheVariants.{NoMemory};
 

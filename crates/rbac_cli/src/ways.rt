@@ -20,8 +20,8 @@ use rbac_subjects::SubjectIndex;
 use std::alloc::{AllocError, Global};
 use std::io::Write;
 
-/// Prints who and what comes by these steps, or by none, to be allowed what the question asks, a line
-/// for each.
+/// Prints a line for each node that is allowed what the question asks, or comes to such a node by
+/// these steps.
 pub(crate) fn print_ways<W: Write + Drop>(
     alloc: Global,
     export: &Export,

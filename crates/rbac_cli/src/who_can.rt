@@ -30,9 +30,9 @@ use rbac_text::{put_holder, put_holder_why};
 use std::alloc::{AllocError, Global};
 use std::io::Write;
 
-/// Prints who is allowed what the question asks, a line for each holder, or for each with every
-/// binding that makes it one; with `why`, each line goes on with why the holder's key holds the
-/// permission by that binding.
+/// Prints who is allowed what the question asks: a line for each holder, or with `every` for each
+/// binding that makes it a holder. With `why`, each line also explains why the holder's key holds
+/// the permission by that binding.
 pub(crate) fn print_holders<W: Write + Drop>(
     alloc: Global,
     export: &Export,
@@ -65,8 +65,8 @@ pub(crate) fn print_holders<W: Write + Drop>(
     print_lines(alloc, &mut lines, Status::Zero, output)
 }
 
-// Where holders are asked for: in this namespace, or with `anywhere` in any, unless it is asked
-// outside all namespaces.
+// Where holders are asked for: in this namespace, or with `anywhere` in any. A target outside all
+// namespaces is asked for in this namespace, which is then empty.
 fn scope_asked(is_outside: bool, anywhere: bool, namespace: Word) -> Scope
     ensures outside { is_outside ≡ true → result ≡ Namespace namespace }
     ensures given { is_outside ≡ false → result ≡ scope_given anywhere namespace }
@@ -102,13 +102,13 @@ fn holders_of<'p>(
         (requested_of requested.entry)) }
     ensures policy { IsPolicy policy.now }
 {
-    // Wanted for its promise alone: what a policy is. So each holder has a line.
+    // Called for its contract alone, which states what a policy is. So each holder has a line.
     let _ = policy.bindings();
     let index = Index::build(alloc, policy)?;
     index.holders(alloc, scope, every, verb, requested)
 }
 
-// What holders are asked about, and whether to tell why they hold it.
+// The question about holders, and whether to print why they hold the permission.
 #[derive(Clone, Copy)]
 struct HolderQuestion<'a> {
     policy: &'a Policy,
@@ -153,7 +153,8 @@ fn put_line(
 ) -> Result<(), AllocError>
     ensures { (text : Text)
         → IsHolderLine asked.entry.policy.now asked.entry.why asked.entry.verb.now
-        (requested_meant asked.entry.any_name asked.entry.target.now) (holder_shown holder.entry) text
+        (requested_meant asked.entry.any_name asked.entry.target.now)
+        (holder_shown holder.entry) text
         → OnOk result (line.new.items ≡ line.old.items ++ text) }
 {
     match reason_told(asked, holder) {
@@ -169,12 +170,14 @@ fn put_line(
     }
 }
 
-// Why the holder's key holds the permission by its binding, if that is to be told.
+// Why the holder's key holds the permission by its binding, if that is to be printed.
 fn reason_told<'a>(asked: HolderQuestion<'a>, holder: Holder<'_>) -> Option<Why<'a>>
     ensures { (text : Text)
         → IsHolderLine asked.entry.policy.now asked.entry.why asked.entry.verb.now
-        (requested_meant asked.entry.any_name asked.entry.target.now) (holder_shown holder.entry) text
-        → MatchOption result (text ≡ holder_text holder.entry.principal.now holder.entry.binding.now)
+        (requested_meant asked.entry.any_name asked.entry.target.now)
+        (holder_shown holder.entry) text
+        → MatchOption result
+        (text ≡ holder_text holder.entry.principal.now holder.entry.binding.now)
         (λ why. text ≡ holder_why_text holder.entry.principal.now why.binding.now
         (source_of why.source) why.rule_place why.subject_place) }
 {

@@ -132,21 +132,21 @@ without_files_rule = some_files_rule (codes "without")
 abbrev pub with_files_rule : Rule
 with_files_rule = some_files_rule (codes "with")
 
--- the options that say in which groups a user is
+-- the options that give the groups of a user
 abbrev pub with_groups : App → App
 with_groups a = with_rule (with_rule a groups_rule) group_rule
 
--- the options that say where, and for which subresource
+-- the options that give the namespace and the subresource
 abbrev pub with_scope : App → App
 with_scope a =
     with_rule (with_rule
     (with_rule (with_rule a namespace_rule) all_rule) in_namespace_rule) subresource_rule
 
--- what is asked, and of which files
+-- VERB TARGET [FILE]..
 abbrev pub with_question : App → App
 with_question a = with_rule (with_rule (with_rule a verb_rule) target_rule) files_rule
 
--- who is asked about, and of which files
+-- WHO [FILE]..
 abbrev pub with_who : App → App
 with_who a = with_rule (with_rule a who_rule) files_rule
 
@@ -158,8 +158,8 @@ can_i_app =
     (with_rule (with_scope (with_groups
     (with_rule (new_app (codes "can-i")) user_rule))) quiet_rule) why_rule)
 
--- who-can [-n NS] [-A] [--in-namespace] [--subresource S] [--anywhere] [--any-name] [--every] [--why]
--- [--indirect] [--steps STEPS] VERB TARGET [FILE]..
+-- who-can [-n NS] [-A] [--in-namespace] [--subresource S] [--anywhere] [--any-name] [--every]
+-- [--why] [--indirect] [--steps STEPS] VERB TARGET [FILE]..
 abbrev pub who_can_app : App
 who_can_app =
     with_question (with_rule
@@ -204,7 +204,7 @@ diff_app =
     (with_rule (with_rule (new_app (codes "diff")) before_files_rule) after_files_rule)
     without_files_rule) with_files_rule
 
--- the program: it has a version, a subcommand is required, and there is no subcommand `help`
+-- the program: it has a version, needs a subcommand, and has no subcommand `help`
 abbrev pub as_program : App → App
 as_program a = record a {
   top = record a.top {

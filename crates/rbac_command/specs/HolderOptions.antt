@@ -1,4 +1,4 @@
--- The options of `who-can` that say which holders count, and what is said of each.
+-- The options of `who-can` that choose which holders are listed, and what a line contains.
 use Rattle.std.specs.Prelude.{List, codes}
 use Rattle.clap.specs.Words.{App, Row, Rule, with_rule}
 use Rattle.rbac_question.specs.declared.command.HolderOptions.{HolderOptions}
@@ -19,7 +19,7 @@ with_holder_options a =
     with_rule (with_rule
     (with_rule (with_rule a anywhere_rule) any_name_rule) every_rule) why_rule
 
--- which of them are given
+-- which of these options are given
 abbrev pub holder_options_in : List Row → HolderOptions
 holder_options_in rows = record {
   why = has_flag (codes "why") rows;

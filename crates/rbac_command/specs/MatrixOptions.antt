@@ -1,4 +1,4 @@
--- The options of `matrix` that say which rows are listed.
+-- The options of `matrix` that choose which rows are listed.
 use Rattle.std.specs.Prelude.{List, codes}
 use Rattle.clap.specs.Words.{App, Row, Rule, with_rule}
 use Rattle.rbac_question.specs.declared.command.MatrixOptions.{MatrixOptions}
@@ -13,7 +13,7 @@ once_rule = flag_rule (codes "once")
 abbrev pub with_matrix_options : App → App
 with_matrix_options a = with_rule (with_rule a every_rule) once_rule
 
--- which of them are given
+-- which of these options are given
 abbrev pub matrix_options_in : List Row → MatrixOptions
 matrix_options_in rows = record {
   every = has_flag (codes "every") rows;

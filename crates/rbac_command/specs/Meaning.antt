@@ -29,8 +29,7 @@ use Rattle.rbac_command.specs.declared.fault.UsageFault.TheVariants.{Refused, Qu
 
 -- ---- the parts of a line
 
--- the files of a `diff` line, in order: those before the change, those after it, those whose objects
--- are taken away, and those that are put over
+-- the files of a `diff` line, in order: those of `--before`, `--after`, `--without` and `--with`
 abbrev pub diff_files_in : List Row → List Text
 diff_files_in rows = texts_at (codes "before") rows ++ (texts_at (codes "after") rows
     ++ (texts_at (codes "without") rows ++ texts_at (codes "with") rows))
@@ -72,7 +71,7 @@ who_can_in rows = record {
   question = question_in rows;
 }
 
--- the parts of a line that name somebody
+-- the parts of a line that name a principal
 abbrev pub who_in : List Row → WhoParts
 who_in rows = record {
   key = value_at (codes "who") rows;
@@ -126,7 +125,7 @@ IsNumberAt id rows number = IsNumber (one_of id rows) number
 
 -- ---- a command
 
--- one of the subcommands
+-- the text is the name of a subcommand
 abbrev pub is_known : Text → Bool
 is_known name = bytes_eq name (codes "can-i")
     || (bytes_eq name (codes "who-can")
@@ -174,9 +173,9 @@ Means (Some p) c = MeansRows p.0 p.1 c
 
 -- ---- refusals
 
--- the refusal of a subcommand's matches: out of memory may come at any time; besides it, `matrix`
--- has only U4, `rules` only U5, `lint` only U6, `diff` only U7, `paths` only U5 and U8, `can-i` only
--- U2 and U3, `who-can` these and U8 and U9, and `universe` and `powers` have none
+-- the refusal of a subcommand's matches: U4 of `matrix`, U5 of `rules`, U6 of `lint`, U7 of `diff`,
+-- U5 and U8 of `paths`, U2 and U3 of `can-i`, U2, U3, U8 and U9 of `who-can`, and none of
+-- `universe` and `powers`; out of memory may come at any time
 abbrev pub RefusesAction : Text → List Row → QuestionFault → Type 0
 RefusesAction name rows question.NoMemory = Unit {0}
 RefusesAction name rows question.BadToken = (name ≡ codes "matrix")
@@ -199,8 +198,8 @@ abbrev pub IsCauseOf : Option (Text × List Row) → QuestionFault → Type 0
 IsCauseOf None e = ⊥
 IsCauseOf (Some p) e = RefusesAction p.0 p.1 e
 
--- a refusal by `clap` comes if it refuses the words, any other if it accepts them; out of memory
--- may come at any time
+-- the refusal of a command line: U1 if `clap` refuses the words, otherwise that of its subcommand;
+-- out of memory may come at any time
 abbrev pub IsUsageFault : List Text → UsageFault → Type 0
 IsUsageFault words (Refused e) = IsAmong (kind_of e) (fault_of rbac_app words)
 IsUsageFault words (Asked question.NoMemory) = Unit {0}

@@ -1,4 +1,4 @@
--- What `clap`'s matches have under an id.
+-- The values of an id in `clap`'s matches.
 use Rattle.std.specs.Prelude.{Bool, List, [], codes, unwrap_or}
 use Rattle.std.specs.Str.{bytes_eq}
 use Rattle.clap.specs.Words.{Row, Text, all_of, first_of}

@@ -258,7 +258,7 @@ fn option<'a>(alloc: Global, name: &'a str, value: &'a str, help: &'a str) -> Ar
         .help(help)
 }
 
-// A word that must be given.
+// A positional argument that must be given.
 fn word<'a>(alloc: Global, name: &'a str, value: &'a str, help: &'a str) -> Arg<'a>
     ensures rule { rule_of result ≡ record (new_rule name.entry.now) {
       value_names = 1;
@@ -519,7 +519,7 @@ fn with_files_arg<'a>(alloc: Global) -> Arg<'a>
     )
 }
 
-// A command, if there was the memory to build it.
+// A command, or out of memory.
 pub(crate) type Built<'a> = Result<Command<'a>, AllocError>;
 
 // Adds an argument that isn't global.
@@ -730,7 +730,8 @@ fn with_sub<'a>(command: Command<'a>, sub: Built<'a>) -> Built<'a>
     command.subcommand(sub?)
 }
 
-// The program with no subcommands yet. Usage texts name it so, whatever the first word is.
+// The program, without its subcommands. Usage texts call it `rbacaudit`, whatever the first word
+// is.
 fn bare<'a>(alloc: Global) -> Built<'a>
     ensures { IfOk result (λ r. app_of r ≡ bare_app) }
 {

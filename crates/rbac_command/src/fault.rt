@@ -10,10 +10,10 @@ use std::fmt;
 /// Why a command line is refused (own).
 #[derive(Debug, Drop)]
 pub enum UsageFault {
-    /// U1: refused by `clap`, or help or the version was asked for. Its `Display` is `clap`'s text,
-    /// and `use_stderr` says whether it is a refusal.
+    /// U1: `clap` refused the words, or help or the version was asked for. `Display` gives `clap`'s
+    /// text, and `use_stderr` whether it is a refusal.
     Refused(clap::Error),
-    /// U2 to U9, or out of memory: what the words ask.
+    /// U2 to U9: the words are refused for what they mean; or out of memory.
     Question(QuestionFault),
 }
 

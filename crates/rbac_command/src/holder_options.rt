@@ -1,4 +1,4 @@
-//! The options of `who-can` that say which holders count, and what is said of each.
+//! The options of `who-can` that choose which holders are listed, and what a line contains.
 
 ghost use Rattle.std.specs.Prelude.{◌≡◌, IfOk, IsOkAnd, false};
 ghost use Rattle.clap.specs.Words.{app_of, found_of, rows_of};
@@ -32,7 +32,7 @@ pub(crate) fn with_holder_options<'a>(alloc: Global, command: Built<'a>) -> Buil
     with(command, flag(alloc, "why", WHY))
 }
 
-// Which of them are given.
+// Which of these options are given.
 pub(crate) fn holder_options_of(matches: &ArgMatches<'_>) -> HolderOptions
     ensures { result ≡ holder_options_in (rows_of (found_of matches.now)) }
 {

@@ -1,4 +1,4 @@
-//! The options of `matrix` that say which rows are listed.
+//! The options of `matrix` that choose which rows are listed.
 
 ghost use Rattle.std.specs.Prelude.{◌≡◌, IfOk, IsOkAnd, false};
 ghost use Rattle.clap.specs.Words.{app_of, found_of, rows_of};
@@ -26,7 +26,7 @@ pub(crate) fn with_matrix_options<'a>(alloc: Global, command: Built<'a>) -> Buil
     with(command, flag(alloc, "once", ONCE))
 }
 
-// Which of them are given.
+// Which of these options are given.
 pub(crate) fn matrix_options_of(matches: &ArgMatches<'_>) -> MatrixOptions
     ensures { result ≡ matrix_options_in (rows_of (found_of matches.now)) }
 {

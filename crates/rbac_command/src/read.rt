@@ -1,4 +1,4 @@
-//! From words to a command.
+//! How the words of a command line become a command.
 
 ghost use Rattle.std.specs.Prelude.{◌≡◌, ◌++◌, [], Some, None, IfOk, OnOk, IfErr, MatchResult};
 ghost use Rattle.std.specs.Prelude.{map, length};
@@ -96,7 +96,7 @@ fn who_can_line_of<'a>(matches: &ArgMatches<'a>) -> WhoCanLine<'a>
     }
 }
 
-// The parts of a line that name somebody.
+// The parts of a line that name a principal.
 fn who_line_of<'m, 'a>(matches: &'m ArgMatches<'a>) -> WhoLine<'m, 'a>
     ensures { result ≡ who_in (rows_of (found_of matches.now)) }
 {
@@ -307,7 +307,8 @@ fn meaning_of(alloc: Global, matches: &ArgMatches<'_>) -> Result<Command, Questi
 
 /// The command that the words mean; the first word is the program's name.
 ///
-/// U1 if `clap` refuses the words, or help or the version is asked for, then U2 to U9.
+/// U1 if `clap` refuses the words, or if help or the version is asked for; otherwise U2 to U9, or
+/// out of memory.
 pub fn command_of(alloc: Global, words: &[String]) -> Result<Command, UsageFault>
     ensures { IsAnswer (map string_bytes words.now) result }
 {

@@ -1,5 +1,5 @@
--- When a rule covers another: it allows everything that the other one does. What has to be asked to
--- decide that is finite: the other's samples.
+-- When a rule covers another: it allows everything that the other rule allows. Finitely many
+-- requests decide this: the other rule's samples.
 use Rattle.std.specs.Prelude.{◌≡◌, ◌≢◌, ◌<◌, ◌⊎◌, List, [], All, Any, Contains, length}
 use Rattle.rbac_terms.specs.declared.matching.Rule.{Rule}
 use Rattle.rbac_terms.specs.Text.{Text}
@@ -35,51 +35,60 @@ AllowsSamples a b = (v : Text) (t : What) → IsSample a b v t → RuleAllows a 
 
 -- ---- covering, list by list
 
--- a allows this word of b, taken as a text; a resource word has to be allowed only if it is a
--- resource text, a URL word only if its sample is a path
+-- a allows this verb word of b, taken as a text
 unfoldable pub AllowsVerb : Rule → Text → Type 0
 AllowsVerb a v = VerbOk a v
 
+-- a allows this API group word of b, taken as a text
 unfoldable pub AllowsGroup : Rule → Text → Type 0
 AllowsGroup a g = Any (λ w. WordMatches w g) a.groups
 
+-- a allows this resource word of b, taken as a text, if it is a resource text
 unfoldable pub AllowsResource : Rule → Text → Type 0
 AllowsResource a s = IsResourceText s → Any (λ w. ResourceWordMatches w s) a.resources
 
+-- a allows this object name of b
 unfoldable pub AllowsName : Rule → Text → Type 0
 AllowsName a n = NameMatches a.resource_names n
 
+-- a allows this URL word of b, taken as a text, if its sample is a path
 unfoldable pub AllowsUrl : Rule → Text → Type 0
 AllowsUrl a w = GivesPath w → AllowsUrlWord a w
 
--- a allows each of these words of b; if b has no names, a has none
+-- a allows each verb word of b
 unfoldable pub AllowsVerbs : Rule → Rule → Type 0
 AllowsVerbs a b = All (AllowsVerb a) b.verbs
 
+-- a allows each API group word of b
 unfoldable pub AllowsGroups : Rule → Rule → Type 0
 AllowsGroups a b = All (AllowsGroup a) b.groups
 
+-- a allows each resource word of b
 unfoldable pub AllowsResources : Rule → Rule → Type 0
 AllowsResources a b = All (AllowsResource a) b.resources
 
+-- a allows each object name of b; if b has no names, a has none
 unfoldable pub AllowsNames : Rule → Rule → Type 0
 AllowsNames a b = (b.resource_names ≡ [] → a.resource_names ≡ [])
     × All (AllowsName a) b.resource_names
 
+-- a allows each URL word of b
 unfoldable pub AllowsUrls : Rule → Rule → Type 0
 AllowsUrls a b = All (AllowsUrl a) b.urls
 
--- b has samples that are resources, or URLs
+-- b has samples that are resources
 unfoldable pub HasResource : Rule → Type 0
 HasResource b = (b.verbs ≢ []) × (b.groups ≢ []) × Any IsResourceText b.resources
 
+-- b has samples that are URLs
 unfoldable pub HasUrl : Rule → Type 0
 HasUrl b = (b.verbs ≢ []) × Any GivesPath b.urls
 
--- a allows these samples, list by list, if b has any
+-- a allows the samples of b that are resources, list by list, if there are any
 abbrev pub CoversResources : Rule → Rule → Type 0
 CoversResources a b = HasResource b
     → AllowsResources a b × AllowsVerbs a b × AllowsGroups a b × AllowsNames a b
 
+-- a allows the samples of b that are URLs, list by list, if there are any
 abbrev pub CoversUrls : Rule → Rule → Type 0
 CoversUrls a b = HasUrl b → AllowsVerbs a b × AllowsUrls a b

@@ -1,21 +1,22 @@
-//! Whether a rule allows everything that another one does.
+//! Whether a rule allows everything that another rule allows.
 
 ghost use Rattle.std.specs.Prelude.{IsTrue, ◌↔◌};
 ghost use Rattle.rbac_model.specs.Universes.{Covers};
 ghost use Rattle.rbac_covering.specs.Covering.{AllowsSamples, HasResource, HasUrl};
 ghost use Rattle.rbac_covering.specs.Covering.{CoversResources, CoversUrls};
 ghost use Rattle.rbac_covering.specs.Covering.{AllowsVerb, AllowsGroup, AllowsResource, AllowsName};
-ghost use Rattle.rbac_covering.specs.Covering.{AllowsUrl, AllowsVerbs, AllowsGroups, AllowsResources};
+ghost use Rattle.rbac_covering.specs.Covering.{AllowsUrl, AllowsVerbs, AllowsGroups};
+ghost use Rattle.rbac_covering.specs.Covering.{AllowsResources};
 ghost use Rattle.rbac_covering.specs.Covering.{AllowsNames, AllowsUrls};
 
 use crate::ordered_rule::OrderedRule;
 use rbac_model::gives_path;
 use rbac_terms::{Rule, Word, is_resource_text};
 
-/// Whether the first rule allows each verb on each target that the second one allows it on: for all
-/// possible requests, whatever a universe lists (own). Asking the first rule about samples is
-/// enough: the second one's own words, taken as texts, and a name longer than all of the first
-/// one's if the second has no names. Doesn't allocate.
+/// Whether the rule `a` allows each verb on each target on which the rule `b` allows it: for all
+/// possible requests, whatever a universe lists (own). Asking `a` about samples is enough: the own
+/// words of `b`, taken as texts, and, if `b` has no names, a name longer than all names of `a`.
+/// Doesn't allocate.
 pub fn covers(a: &OrderedRule<'_>, b: &Rule) -> bool
     ensures all { IsTrue result ↔ Covers a.now b.now }
     ensures samples { IsTrue result ↔ AllowsSamples a.now b.now }
@@ -24,7 +25,7 @@ pub fn covers(a: &OrderedRule<'_>, b: &Rule) -> bool
     covers_resources(a, b) && covers_urls(a, b)
 }
 
-// The resources are checked first: of many rules, few are about the same ones.
+// The resources are checked first, since few rules are about the same resources.
 fn covers_resources(a: &OrderedRule<'_>, b: &Rule) -> bool
     ensures { IsTrue result ↔ CoversResources a.now b.now }
 {

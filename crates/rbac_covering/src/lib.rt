@@ -1,4 +1,4 @@
-//! Rules that allow all that other rules allow, whatever is asked.
+//! Covering: whether a rule allows everything that another rule allows, whatever the request.
 #![tactic(auto)]
 
 mod coverage;

@@ -10,8 +10,8 @@ use rbac_terms::{Rule, Word, resource_matches};
 use std::alloc::{AllocError, Global};
 use std::marker::Model;
 
-/// A rule, with the words of its long lists in byte order, so that one of them is found by halving.
-/// It holds copies of those words.
+/// A rule, with copies of the words of its long lists in byte order, for binary search. A list is
+/// long if it has 16 words or more.
 pub struct OrderedRule<'a> {
     rule: &'a Rule,
     verbs: WordLookup<'a>,
@@ -48,7 +48,7 @@ impl<'a> Model for OrderedRule<'a> {
 }
 
 impl<'a> OrderedRule<'a> {
-    /// The rule with its words in order. Fails only if it runs out of memory.
+    /// The rule, with the words of its long lists in order. Fails only if it runs out of memory.
     pub fn new(rule: &'a Rule) -> Result<Self, AllocError>
         ensures { IfOk result (λ o. o ≡ rule.now) }
     {
@@ -102,7 +102,7 @@ impl<'a> OrderedRule<'a> {
     }
 
     /// Whether the rule allows this URL word, taken as a text, as [`rbac_model::allows_url_word`]
-    /// answers it. Doesn't allocate.
+    /// does. Doesn't allocate.
     pub fn allows_url_word(&self, word: &Word) -> bool
         ensures { IsTrue result ↔ AllowsUrlWord self.now word.now }
     {
@@ -110,7 +110,7 @@ impl<'a> OrderedRule<'a> {
     }
 }
 
-/// These rules with their words in order. Fails only if it runs out of memory.
+/// These rules, with the words of their long lists in order. Fails only if it runs out of memory.
 pub fn ordered_rules<'a>(
     alloc: Global,
     rules: &'a [Rule],

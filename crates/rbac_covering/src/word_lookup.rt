@@ -1,4 +1,4 @@
-//! Lists of words in which one is looked up.
+//! Lists of words, for look-up.
 
 ghost use Rattle.std.specs.Prelude.{◌≡◌, ◌↔◌, Any, Contains, IfOk, IfSome, IsTrue};
 ghost use Rattle.rbac_terms.specs.Matching.{WordMatches};
@@ -8,14 +8,14 @@ use rbac_terms::{Word, Words, is_among, sorted_copy};
 use std::alloc::AllocError;
 use std::marker::Model;
 
-// How many words are put in order: fewer are sooner read one by one.
+// A list of this many words or more is put in order; a shorter one is faster read word by word.
 const MANY: usize = 16;
 
-// The word that stands for every verb, API group or resource.
+// The word that matches every verb, API group or resource.
 const STAR: &[u8] = b"*";
 
-/// The words of a list; where they are many, in byte order too, so that one is found by halving. It
-/// holds copies of those words.
+/// The words of a list. If it has 16 words or more, copies of them are kept in byte order too, for
+/// binary search.
 #[derive(Drop)]
 pub struct WordLookup<'a> {
     words: &'a Words,
@@ -36,7 +36,8 @@ impl<'a> Model for WordLookup<'a> {
 }
 
 impl<'a> WordLookup<'a> {
-    /// The words with those of a long list in order. Fails only if it runs out of memory.
+    /// The words of this list, and, if it is long, copies of them in order. Fails only if it runs
+    /// out of memory.
     pub fn new(words: &'a Words) -> Result<Self, AllocError>
         ensures { IfOk result (λ w. w ≡ words.now) }
     {
@@ -57,8 +58,8 @@ impl<'a> WordLookup<'a> {
         }
     }
 
-    /// Whether a word of the list is `*` or this word: so match the words for verbs and for API
-    /// groups (rbac/v1 evaluation helpers). Doesn't allocate.
+    /// Whether a word of the list is `*` or this word. This is how the words for verbs and for API
+    /// groups match (rbac/v1 evaluation helpers). Doesn't allocate.
     pub fn matches(&self, word: &Word) -> bool
         ensures { IsTrue result ↔ Any (λ w. WordMatches w word.now) self.now }
     {
@@ -66,7 +67,7 @@ impl<'a> WordLookup<'a> {
     }
 }
 
-// The words in byte order; `None` where they are few.
+// The words in byte order; `None` if they are few.
 fn ordered_if_many(words: &Words) -> Result<Option<Vec<Word>>, AllocError>
     ensures { IfOk result (λ o. IfSome o (λ v. IsSortedCopy words.now v.items)) }
 {

@@ -17,12 +17,14 @@ pub record ChangeView : Type 0 where
   pub permission : Text
   pub binding : Binding
 
--- a gained permission, with the first binding of after that has it; what is lost is what is gained
--- with the sides exchanged
+-- a gained permission, with the first binding of `after` that has it; a lost permission is a gained
+-- one with the sides exchanged
 abbrev pub IsChangeOf : ChangeKind → PolicyView → PolicyView → PermissionView → Binding → Type 0
 IsChangeOf Gained before after p b = IsGained before after p × IsFirstWith after p b
 IsChangeOf Lost before after p b = IsGained after before p × IsFirstWith before p b
 
+-- a change from the first policy to the second: a permission that is gained or lost, as it is
+-- printed, and its binding
 abbrev pub IsChangeBetween : PolicyView → PolicyView → ChangeView → Type 0
 IsChangeBetween before after x = (p : PermissionView) × (x.permission ≡ permission_text p)
     × IsChangeOf x.kind before after p x.binding
@@ -32,11 +34,12 @@ pub record AreChanges (before after : PolicyView) (xs : List ChangeView) : Type 
   pub ordered : AllPairs (λ x y. text_cmp x.permission y.permission ≡ Less) xs
   pub exact : (x : ChangeView) → Contains xs x ↔ IsChangeBetween before after x
 
--- a change as it is with the sides exchanged: what was gained is lost, and what was lost is gained
+-- with the sides exchanged, a gained permission is lost, and a lost one is gained
 abbrev pub exchanged_kind : ChangeKind → ChangeKind
 exchanged_kind Gained = Lost
 exchanged_kind Lost = Gained
 
+-- a change with the sides exchanged
 abbrev pub exchanged : ChangeView → ChangeView
 exchanged x = record x { kind = exchanged_kind x.kind }
 
@@ -44,8 +47,8 @@ exchanged x = record x { kind = exchanged_kind x.kind }
 abbrev pub NoneGained : List ChangeView → Type 0
 NoneGained xs = ¬ Any (λ x. x.kind ≡ Gained) xs
 
--- the changes tell of a request that is gained: some change is of a gained permission that stands
--- for it, and only for requests that after allows
+-- the changes list a gained request: some change is a gained permission that stands for the
+-- request, and only for requests that `after` allows
 abbrev pub TellsOf : PolicyView → PolicyView → List ChangeView → RequestView → Type 0
 TellsOf before after xs r = Any (λ x. (x.kind ≡ Gained)
     × ((p : PermissionView) × (x.permission ≡ permission_text p)

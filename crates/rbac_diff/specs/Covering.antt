@@ -1,5 +1,5 @@
--- When a policy allows all that a permission stands for. What has to be asked to decide that is
--- finite: the permission's own words, taken as texts.
+-- When a policy allows all requests that a permission stands for. Finitely many requests decide it:
+-- those made of the permission's own words, taken as texts.
 use Rattle.std.specs.Prelude.{◌≡◌, ◌≢◌, ◌⊎◌, List, [], ◌∷◌, Option, Some, None, Any}
 use Rattle.std.specs.Prelude.{codes}
 use Rattle.std.specs.Str.{bytes_eq}
@@ -14,9 +14,9 @@ use Rattle.rbac_model.specs.OwnWords.{IsUrlSample, GivesPath}
 use Rattle.rbac_model.specs.Policies.{PolicyView, GrantView, BindingNames}
 use Rattle.rbac_diff.specs.Permissions.{Permitted, OnResource, OnUrl, PermissionView}
 
--- whoever a permission is for, one of these is, and bindings that name this one name them: a user
--- without given groups; for a group, a member of it, or of all that have signed in, unless it is
--- the anonymous user's alone
+-- the stand-ins of a principal: a binding that names a stand-in names everyone whom the principal
+-- stands for. A user's is the user without given groups. A group's are a member of it and a member
+-- of `system:authenticated`; but of `system:unauthenticated`, the anonymous user alone
 abbrev pub stand_ins : Who → List Who
 stand_ins (AsUser name given) = AsUser name [] ∷ []
 stand_ins (AsMember group) =
@@ -45,17 +45,17 @@ CoversTarget r (OnUrl url) = (x : Text) → IsUrlSample url x → Any (λ w. Url
 abbrev pub CoversWords : Text → Permitted → Rule → Type 0
 CoversWords verb target r = VerbOk r verb × CoversTarget r target
 
--- a grant allows all that a permission stands for
+-- a grant allows all requests that a permission stands for
 pub record CoversPermission (p : PermissionView) (g : GrantView) : Type 0 where
   pub wide : IsAsWide g.binding.namespace p.target
   pub names : Any (BindingNames g.binding) (stand_ins p.principal)
   pub words : CoversWords p.verb p.target g.rule.rule
 
--- some grant of the policy does
+-- the policy covers the permission: some grant allows all requests that it stands for
 abbrev pub IsCovered : PolicyView → PermissionView → Type 0
 IsCovered policy p = Any (CoversPermission p) policy.grants
 
--- some request is for what is permitted: a RoleBinding in the empty namespace is live nowhere, and
+-- what is permitted includes a request: a RoleBinding in the empty namespace is live nowhere, and
 -- words that match no proper target permit nothing
 abbrev pub IsAskedFor : Permitted → Type 0
 IsAskedFor (OnResource namespace group resource name) = (namespace ≢ Some [])

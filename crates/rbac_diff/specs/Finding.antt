@@ -1,4 +1,4 @@
--- While the permissions are looked for that a policy has and another one doesn't allow.
+-- The search for the permissions that one policy has and another doesn't allow.
 use Rattle.std.specs.Prelude.{◌≡◌, ℕ, ◌<◌, ◌⊎◌, List, Option, Some, None, Any, IsSome, Contains}
 use Rattle.std.specs.Prelude.{map, slice_get}
 use Rattle.std.specs.BTreeMap.{BTreeMap, get}
@@ -15,12 +15,12 @@ use Rattle.rbac_diff.specs.Listed.{OriginView}
 use Rattle.rbac_diff.specs.declared.change.ChangeKind.{ChangeKind}
 use Rattle.rbac_diff.specs.declared.finding.Search.{Search}
 
--- what was found, under the texts of permissions
+-- what was found so far, by the texts of permissions
 abbrev pub FoundChanges : Type 0
 FoundChanges = BTreeMap Text OriginView
 
--- new has what old has, and x under the text of each permission with the property, unless something
--- was there already
+-- `new` has the entries of `old`, and `x` under the text of each permission with the property that
+-- has no entry in `old`
 pub record Finds (P : PermissionView → Type 0) (x : OriginView) (old new : FoundChanges)
     : Type 0 where
   pub kept : (t : Text) (y : OriginView) → get text_cmp old t ≡ Some y → get text_cmp new t ≡ Some y
@@ -29,16 +29,17 @@ pub record Finds (P : PermissionView → Type 0) (x : OriginView) (old new : Fou
       → (get text_cmp old t ≡ Some y) ⊎ ((get text_cmp old t ≡ None) × (y ≡ x)
       × ((p : PermissionView) × P p × (t ≡ permission_text p)))
 
--- some request is for the permission, and none of these rules allows all that it stands for
+-- the permission stands for some request, and none of these rules covers it
 pub record IsMissing (rules : List (Bor Rule)) (p : PermissionView) : Type 0 where
   pub asked : IsAskedFor p.target
   pub missing : ¬ Any (λ r. CoversWords p.verb p.target r.now) rules
 
--- the rules of a search stand in it with their words in order, too
+-- a search also has its rules with their words in order
 abbrev pub IsOrdered : Search → Type 0
 IsOrdered s = s.ordered.now ≡ map (λ r. r.now) s.others.now
 
--- a search finds its principal's permissions with the property, if the others' rules lack them
+-- a search finds its principal's permissions with the property that the rules of `others` don't
+-- cover
 abbrev pub SearchFinds : Search → (PermissionView → Type 0) → FoundChanges → FoundChanges → Type 0
 SearchFinds s P = Finds
     (λ p. (p.principal ≡ s.principal.now) × P p × IsMissing s.others.now p) s.origin.now
@@ -68,19 +69,19 @@ IsByGrants policy place own p = (no : ℕ) × (g : GrantView) × (slice_get poli
     × IsOfBinding policy no place × Contains g.rule.rule.verbs p.verb
     × Permits own g.rule.rule p.target
 
--- some request is for the permission, and before doesn't allow all that it stands for
+-- the permission stands for some request, and `before` doesn't cover it
 abbrev pub IsUncovered : PolicyView → PermissionView → Type 0
 IsUncovered before p = IsAskedFor p.target × (¬ IsCovered before p)
 
--- a permission by a grant of the binding at that place, which before doesn't allow
+-- a permission by a grant of the binding at that place that `before` doesn't cover
 pub record IsGainedAt (before after : PolicyView) (at : ℕ) (p : PermissionView) : Type 0 where
   pub grant : (no : ℕ) × (g : GrantView) × (slice_get after.grants no ≡ Some g)
       × IsOfBinding after no at × HasPermission p g
   pub asked : IsAskedFor p.target
   pub missing : ¬ IsCovered before p
 
--- new has what old has, and the permissions by the first `count` bindings that before doesn't
--- allow, each with the first of these bindings that has it, unless something was there already
+-- `new` has the entries of `old`, and the permissions of the first `count` bindings that `before`
+-- doesn't cover and `old` doesn't have, each with the first of these bindings that has it
 pub record FindsGained (kind : ChangeKind) (before after : PolicyView) (count : ℕ)
     (old new : FoundChanges) : Type 0 where
   pub kept : (t : Text) (y : OriginView) → get text_cmp old t ≡ Some y → get text_cmp new t ≡ Some y

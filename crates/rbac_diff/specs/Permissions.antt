@@ -9,8 +9,8 @@ use Rattle.rbac_model.specs.Lists.{IsFirstAt}
 use Rattle.rbac_model.specs.Policies.{PolicyView, GrantView}
 use Rattle.rbac_terms.specs.declared.granting.Binding.{Binding}
 
--- what is permitted (own): a resource word of an API group word, in one namespace or in every one
--- and in none, with one object name or any; or a URL word
+-- what is permitted (own): a resource word with an API group word, in one namespace, or in all and
+-- none, with one object name or any; or a URL word
 pub data Permitted : Type 0 where
   OnResource : (namespace : Option Text) (group resource : Text) (name : Option Text) → Permitted
   OnUrl : (url : Text) → Permitted
@@ -22,12 +22,12 @@ pub record PermissionView : Type 0 where
   pub verb : Text
   pub target : Permitted
 
--- nothing but stars
+-- the text is nothing but stars
 abbrev pub are_stars : Text → Bool
 are_stars [] = true
 are_stars (c ∷ w) = (c == star) && are_stars w
 
--- a word with one star at its end, where it has several (own)
+-- the word with one star at its end, if it has several (own)
 abbrev pub one_star : Text → Text
 one_star [] = []
 one_star (c ∷ w) = if are_stars (c ∷ w) then star ∷ [] else c ∷ one_star w

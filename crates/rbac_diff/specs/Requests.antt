@@ -14,9 +14,9 @@ pub record RequestView : Type 0 where
   pub verb : Text
   pub target : What
 
--- a user as a server knows one (own): neither its name nor that of a group that it is given is
--- empty; it isn't given `system:unauthenticated`, where the anonymous user alone is, who is given
--- no group
+-- a user that a server can see (own): neither its name nor the name of a given group is empty; it
+-- isn't given `system:unauthenticated`, which only the anonymous user is in; and the anonymous user
+-- is given no group
 abbrev pub IsUser : Who → Type 0
 IsUser (AsUser name given) = (name ≢ []) × (¬ Contains given [])
     × (¬ Contains given (codes "system:unauthenticated"))
@@ -41,7 +41,8 @@ abbrev pub IsNameOrAny : Option Text → Text → Type 0
 IsNameOrAny None name = Unit {0}
 IsNameOrAny (Some own) name = own ≡ name
 
--- what is asked for in that namespace, or in none, is permitted: where, and by each word
+-- what is permitted includes this target in this namespace: the namespace fits, and each word
+-- matches
 abbrev pub IsPermitted : Permitted → Text → What → Type 0
 IsPermitted (OnResource own group resource name) namespace (Resource g text n) =
     Live own namespace (Resource g text n) × WordMatches group g × ResourceWordMatches resource text

@@ -1,4 +1,4 @@
--- Rules that share words with a rule: no other one covers a permission of it.
+-- Rules that share words with a rule: only these can cover a permission of the rule.
 use Rattle.std.specs.Prelude.{◌⊎◌, ◌↔◌, List, Option, Any, Contains}
 use Rattle.std.proofs.Common.{Bor}
 use Rattle.rbac_terms.specs.Text.{Text}
@@ -9,21 +9,21 @@ use Rattle.rbac_covering.specs.Covering.{AllowsGroup, AllowsVerb}
 use Rattle.rbac_diff.specs.Covering.{CoversWords}
 use Rattle.rbac_diff.specs.Permissions.{PermissionView, Permits}
 
--- a held rule allows this word, taken as a text
+-- a held rule allows this resource word, taken as a text
 unfoldable pub AllowsResourceWord : Rule → Text → Type 0
 AllowsResourceWord held text = Any (λ w. ResourceWordMatches w text) held.resources
 
--- it allows a resource of the rule, in some API group of it
+-- a held rule allows a resource of the rule, and one of its API groups
 abbrev pub SharesResource : Rule → Rule → Type 0
 SharesResource held r = Any (AllowsResourceWord held) r.resources
     × Any (AllowsGroup held) r.groups
 
--- it allows a verb of the rule, and a resource or a URL of it
+-- a held rule allows a verb of the rule, and one of its resources or URLs
 abbrev pub SharesWords : Rule → Rule → Type 0
 SharesWords held r = Any (AllowsVerb held) r.verbs
     × (SharesResource held r ⊎ Any (AllowsUrlWord held) r.urls)
 
--- a rule among near covers a permission of the rule exactly if one of these rules does
+-- a rule of `near` covers a permission of the rule exactly if one of all the rules does
 abbrev pub AreSharing : List (Bor Rule) → Rule → List (Bor Rule) → Type 0
 AreSharing rules r near = (own : Option Text) (p : PermissionView) → Contains r.verbs p.verb
     → Permits own r p.target

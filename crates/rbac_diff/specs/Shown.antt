@@ -1,4 +1,4 @@
--- What the program's permissions stand for.
+-- How contracts see the program's permissions.
 use Rattle.std.specs.Option.{option_copied}
 use Rattle.rbac_diff.specs.Permissions.{Permitted as PermittedView, OnResource, OnUrl, one_star}
 use Rattle.rbac_diff.specs.Permissions.{PermissionView}

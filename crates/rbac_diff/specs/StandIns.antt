@@ -1,4 +1,4 @@
--- Which rules everybody has whom a principal stands for.
+-- The rules that apply to everyone whom a principal stands for.
 use Rattle.std.specs.Prelude.{◌≡◌, ◌↔◌, ◌⊎◌, ℕ, ◌≤◌, ◌<◌, List, [], ◌∷◌, Option, Some, None}
 use Rattle.std.specs.Prelude.{Any}
 use Rattle.std.specs.Prelude.{slice_get, length}
@@ -23,7 +23,7 @@ HasCoveringRule rules r = Any (λ held. CoversAll held.now r) rules
 abbrev pub IsCoveringPlace : List (Bor Rule) → Rule → ℕ → Type 0
 IsCoveringPlace rules r at = (at < length rules) × HasCoveringRule rules r
 
--- the rule is that of a grant, one of the first `count`, that is bound to who asks in that namespace
+-- the rule of a grant, one of the first `count`, that is bound to who asks in that namespace
 abbrev pub IsBoundRule : PolicyView → Who → Text → ℕ → Rule → Type 0
 IsBoundRule policy who namespace count r = (no : ℕ) × (g : GrantView) × (no < count)
     × (slice_get policy.grants no ≡ Some g) × IsBoundTo policy who namespace no × (g.rule.rule ≡ r)
@@ -43,7 +43,7 @@ abbrev pub AddsRulesIn : PolicyView → ℕ → ℕ → List (Bor Rule) → List
 AddsRulesIn policy start end old new = (r : Rule) → HasRule new r
     ↔ (HasRule old r ⊎ IsRuleIn policy start end r)
 
--- one thing, and a second one if there is one
+-- the first, and the second if it is given
 abbrev pub one_or_two : {X : Type 0} → X → Option X → List X
 one_or_two first None = first ∷ []
 one_or_two first (Some second) = first ∷ second ∷ []
@@ -52,8 +52,8 @@ one_or_two first (Some second) = first ∷ second ∷ []
 abbrev pub IsWider : Option Text → Option Text → Type 0
 IsWider own asked = (own ≡ None) ⊎ (own ≡ asked)
 
--- the rules of the grants that name everybody whom the principal stands for, wherever a binding in
--- that namespace, or in none, is live
+-- the rules of the grants whose bindings name everyone whom the principal stands for, and are live
+-- wherever a binding in that namespace, or in none, is
 abbrev pub AreStandInRules : PolicyView → Who → Option Text → List (Bor Rule) → Type 0
 AreStandInRules policy who namespace rules = (r : Rule) → HasRule rules r
     ↔ Any (λ g. IsWider g.binding.namespace namespace

@@ -4,16 +4,16 @@ use Rattle.rbac_terms.specs.declared.granting.Subject.{Subject}
 use Rattle.rbac_model.specs.Policies.{PolicyView, GrantView, IsOfBinding}
 use Rattle.rbac_covering.specs.Covering.{CoversAll}
 
--- the rule of each grant of the binding at that place is covered by that of a grant of the other
--- policy's binding at the second place
+-- the rule of each grant of the binding at `place` is covered by the rule of a grant of the other
+-- policy's binding at `at`
 abbrev pub HasCoveredRules : PolicyView → ℕ → PolicyView → ℕ → Type 0
 HasCoveredRules own place other at = (no : ℕ) (g : GrantView) → slice_get own.grants no ≡ Some g
     → IsOfBinding own no place
     → (m : ℕ) × (h : GrantView) × (slice_get other.grants m ≡ Some h) × IsOfBinding other m at
     × CoversAll h.rule.rule g.rule.rule
 
--- the rule of the grant with the first number is covered by that of the other policy's grant with
--- the second one; each is of some binding
+-- the rule of grant `n` is covered by the rule of the other policy's grant `m`; each grant belongs
+-- to a binding
 pub record IsGrantCovered (own : PolicyView) (n : ℕ) (other : PolicyView) (m : ℕ) : Type 0 where
   pub mine : GrantView
   pub theirs : GrantView
@@ -29,20 +29,21 @@ pub record IsGrantCovered (own : PolicyView) (n : ℕ) (other : PolicyView) (m :
 abbrev pub AreAmong : List Subject → List Subject → Type 0
 AreAmong subjects those = (s : Subject) → Contains subjects s → Contains those s
 
--- for each grant of the binding at that place, the other policy has one in the same namespace, to
--- the same subjects and maybe others, whose rule covers its own
+-- for each grant of the binding at that place, the other policy has a grant in the same namespace,
+-- to all of its subjects and maybe others, whose rule covers its rule
 abbrev pub GrantsNoMore : PolicyView → ℕ → PolicyView → Type 0
 GrantsNoMore own place other = (no : ℕ) (g : GrantView) → slice_get own.grants no ≡ Some g
     → IsOfBinding own no place
     → (h : GrantView) × Contains other.grants h × (h.binding.namespace ≡ g.binding.namespace)
     × AreAmong g.binding.subjects h.binding.subjects × CoversAll h.rule.rule g.rule.rule
 
--- a binding that isn't flagged at its place grants no more than one of the other policy
+-- a binding that isn't flagged grants nothing that the other policy doesn't
 abbrev pub UnflaggedGrantNoMore : PolicyView → List Bool → PolicyView → Type 0
 UnflaggedGrantNoMore own flags other = (place : ℕ) → slice_get flags place ≡ Some false
     → GrantsNoMore own place other
 
--- each binding has a flag, and those that aren't flagged grant no more than one of the other policy
+-- each binding has a flag, and a binding that isn't flagged grants nothing that the other policy
+-- doesn't
 pub record AreFlags (own : PolicyView) (flags : List Bool) (other : PolicyView) : Type 0 where
   pub each : length flags ≡ length own.held.bindings
   pub unflagged : UnflaggedGrantNoMore own flags other

@@ -1,4 +1,4 @@
-//! Bindings that say the same under another name.
+//! Bindings with the same content under another name.
 
 use crate::subjects::{put, subject_text};
 use rbac_terms::{Binding, RoleRef, Subject};
@@ -13,7 +13,7 @@ pub(crate) struct Alike {
 }
 
 impl Alike {
-    // The bindings that are flagged; there is a flag for each, in order.
+    // Lists the flagged bindings. `flags` has one flag for each binding, in order.
     pub(crate) fn of(
         alloc: Global,
         bindings: &[Binding],
@@ -28,7 +28,7 @@ impl Alike {
         Ok(Alike { places })
     }
 
-    // Where a binding stands that says the same as this one.
+    // The place of a listed binding with the same content as this one.
     pub(crate) fn place_of(
         &self,
         alloc: Global,
@@ -54,7 +54,7 @@ fn text_of(alloc: Global, binding: &Binding) -> Result<Vec<u8>, AllocError> {
     Ok(text)
 }
 
-// Adds what the subjects say, in an order of its own.
+// Adds the texts of the subjects, each once, in byte order.
 fn put_subjects(alloc: Global, text: &mut Vec<u8>, subjects: &[Subject]) -> Result<(), AllocError> {
     let mut texts = BTreeSet::new(alloc);
     for subject in subjects {

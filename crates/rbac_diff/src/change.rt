@@ -16,13 +16,15 @@ use std::collections::BTreeMap;
 /// Whether a permission is gained or lost.
 #[derive(Clone, Copy, PartialEq, Eq, Debug, Drop)]
 pub enum ChangeKind {
-    /// The second policy has it, and the first one doesn't allow all that it stands for.
+    /// The second policy has the permission, and the first doesn't allow all requests that it
+    /// stands for.
     Gained,
-    /// The first policy has it, and the second one doesn't allow all that it stands for.
+    /// The first policy has the permission, and the second doesn't allow all requests that it
+    /// stands for.
     Lost,
 }
 
-/// A permission that one policy has and the other one doesn't allow.
+/// A permission of one policy that stands for a request which the other policy doesn't allow.
 #[derive(Drop)]
 pub struct Change<'p> {
     /// Whether it is gained or lost.
@@ -30,16 +32,16 @@ pub struct Change<'p> {
     /// The permission as it is printed, each field with a tab after it: who, the namespace, the
     /// verb, the API group, the resource or URL, and the object name.
     pub permission: Word,
-    /// The first binding that has it, of the policy that has it.
+    /// The first binding with the permission, in the policy that has it.
     pub binding: &'p Binding,
 }
 
 // The changes that were found, under their permissions' texts.
 pub(crate) type FoundChanges<'p> = BTreeMap<Word, Origin<'p>>;
 
-/// What changes for users when one policy takes the place of another: each permission that the
-/// second one has and the first one doesn't allow, and the other way round, in order of how they
-/// are printed (own). Fails only if it runs out of memory.
+/// What changes for users when the second policy replaces the first: each permission that one
+/// policy has and the other doesn't allow, in order of the printed permissions (own). Fails only if
+/// it runs out of memory.
 pub fn changes<'p>(
     alloc: Global,
     before: &'p Policy,

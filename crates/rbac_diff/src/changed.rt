@@ -1,4 +1,4 @@
-//! Which bindings of two policies may grant what the other one doesn't.
+//! Which bindings of one policy may grant what another policy doesn't.
 
 ghost use Rattle.std.specs.Prelude.{◌≡◌, ◌<◌, IfOk, false, length};
 ghost use Rattle.rbac_model.specs.Policies.{IsPolicy};
@@ -12,8 +12,8 @@ use crate::unchanged::grants_no_more;
 use rbac_model::Policy;
 use std::alloc::{AllocError, Global};
 
-// Flags for the bindings of two policies, one for each in order. A binding that isn't flagged grants
-// no more than one of the other policy.
+// Flags for the bindings of two policies, one for each in order. A binding that isn't flagged
+// grants nothing that the other policy doesn't.
 pub(crate) struct Changed {
     pub(crate) before: Vec<bool>,
     pub(crate) after: Vec<bool>,
@@ -26,9 +26,9 @@ impl Drop for Changed {
 }
 
 impl Changed {
-    // The other policy's binding is looked for under the same name, and then, without a namesake, by
-    // its content, among the bindings that also have none: most bindings of an export stay, and many
-    // others are renamed.
+    // Compares each binding with the other policy's binding of the same name. A binding that stays
+    // flagged is then looked up by its content among the other policy's flagged ones: most bindings
+    // of an export stay, and many others are renamed.
     pub(crate) fn between(
         alloc: Global,
         before: &Policy,
@@ -47,7 +47,8 @@ impl Changed {
     }
 }
 
-// Flags the bindings that grant more than the other policy's of the same name, if it has one.
+// Flags the bindings that may grant more than the other policy's binding of the same name, and
+// those without such a namesake.
 fn without_namesakes(alloc: Global, own: &Policy, other: &Policy) -> Result<Vec<bool>, AllocError>
     ensures flags { IfOk result (λ flags. AreFlags own.now flags.items other.now) }
     ensures policies { IsPolicy own.now × IsPolicy other.now }
@@ -64,8 +65,8 @@ fn without_namesakes(alloc: Global, own: &Policy, other: &Policy) -> Result<Vec<
     Ok(flags)
 }
 
-// Whether the binding at the first place may grant more than the other policy's at the second one,
-// if there is one.
+// Whether the binding at `place` may grant more than the other policy's binding at `at`; true if
+// there is no `at`.
 fn exceeds(
     alloc: Global,
     own: &Policy,
@@ -84,8 +85,8 @@ fn exceeds(
     }
 }
 
-// Keeps the flags of the bindings for which none that is flagged in the other policy says the same
-// under another name, with the same rules.
+// Removes the flag of each binding that grants no more than a flagged binding of the other policy
+// with the same content.
 fn without_alike(
     alloc: Global,
     own: &Policy,
@@ -104,8 +105,8 @@ fn without_alike(
     Ok(left)
 }
 
-// Whether the binding stays flagged: the other policy has none that says the same under another
-// name, with the same rules.
+// Whether the binding stays flagged: it may grant more than the listed binding of the other policy
+// with the same content, or no listed binding has this content.
 fn stays_flagged(
     alloc: Global,
     flagged: bool,

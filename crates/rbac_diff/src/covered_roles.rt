@@ -1,4 +1,4 @@
-//! Roles whose rules the other policy's role of the same name covers.
+//! Roles whose rules are covered by those of the other policy's role of the same name.
 
 ghost use Rattle.std.specs.Prelude.{◌≡◌, ◌<◌, IsTrue, IfOk, IfSome, List, Some, [], length};
 ghost use Rattle.std.specs.Prelude.{slice_get};
@@ -12,9 +12,9 @@ use rbac_model::{GrantPlace, Named, Policy, RolePlace};
 use rbac_terms::{ClusterRole, Role, Rule};
 use std::alloc::{AllocError, Global};
 
-// For each role of a policy, and for each cluster role, the place of the other policy's of the same
-// name, if that one's rules cover this one's, one by one. Most roles stay, and most are referred to
-// by several bindings.
+// For each role and each cluster role of a policy, the place of its namesake in the other policy,
+// if the namesake's rules cover its own one by one. This is computed once for each role: most roles
+// stay, and several bindings refer to most.
 pub(crate) struct CoveredRoles {
     pub(crate) roles: Vec<Option<usize>>,
     pub(crate) cluster_roles: Vec<Option<usize>>,
@@ -52,8 +52,8 @@ impl CoveredRoles {
         }
     }
 
-    // Whether the rule of a grant at the first places is covered by that of one of the other policy
-    // at the second ones, since their role is.
+    // Whether the rule at `own` is known to be covered by the other policy's rule at `other`,
+    // because its role is covered.
     pub(crate) fn have_rule(&self, own: GrantPlace, other: GrantPlace) -> bool
         ensures rule { IsTrue result → own.rule ≡ other.rule }
         ensures role { IsTrue result → HasPair self.now own.role other.role }
@@ -76,7 +76,7 @@ impl CoveredRoles {
     }
 }
 
-// Whether the list has that place for the role at this one.
+// Whether the list has the place `other` for the role at `own`.
 fn is_at(places: &[Option<usize>], own: usize, other: usize) -> bool
     ensures { IsTrue result → slice_get places.now own ≡ Some (Some other) }
 {
@@ -110,7 +110,7 @@ impl Ruled for ClusterRole {
     }
 }
 
-// For each of these roles, the place of the other of its name whose rules cover its own.
+// For each role, the place of its namesake among the others, if the namesake's rules cover its own.
 fn covered_places<T: Ruled>(
     alloc: Global,
     roles: &[T],
@@ -127,7 +127,7 @@ fn covered_places<T: Ruled>(
     Ok(places)
 }
 
-// The place of the role's namesake among the others, if its rules cover this one's.
+// The place of the role's namesake among the others, if the namesake's rules cover the role's.
 fn covered_place<T: Ruled>(
     role: &T,
     others: &[T],
@@ -142,7 +142,7 @@ fn covered_place<T: Ruled>(
     }
 }
 
-// Whether there are as many rules as others, and each covers the other at its place.
+// Whether both lists are equally long, and each rule covers the one at its place in `others`.
 fn cover_each(rules: &[Rule], others: &[Rule]) -> Result<bool, AllocError>
     ensures { IfOk result (λ cover. IsTrue cover → CoversEach rules.now others.now) }
 {

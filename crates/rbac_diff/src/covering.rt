@@ -1,4 +1,5 @@
-//! Whether rules allow all that a permission stands for, its words taken as texts.
+//! Whether rules allow all requests that a permission stands for, decided by its words taken as
+//! texts.
 
 ghost use Rattle.std.specs.Prelude.{◌≡◌, ◌↔◌, IfOk, IsTrue, Any, Some, []};
 ghost use Rattle.std.specs.Option.{option_copied};
@@ -19,7 +20,7 @@ use rbac_terms::{
 };
 use std::alloc::AllocError;
 
-// Whether some request is for what is permitted: a RoleBinding in the empty namespace is live
+// Whether what is permitted includes a request: a RoleBinding in the empty namespace is live
 // nowhere, and some words match no proper target.
 pub(crate) fn is_asked_for(target: Permitted<'_>) -> bool
     ensures { IsTrue result ↔ IsAskedFor (permitted_of target.entry) }
@@ -72,7 +73,8 @@ fn covers_target(rule: &OrderedRule<'_>, target: Permitted<'_>) -> bool
     }
 }
 
-// Whether the rule allows this resource word, taken as a text, for objects of that name, or of any.
+// Whether the rule allows this resource word, taken as a text, for this object name, or without one
+// for any.
 fn covers_object(rule: &OrderedRule<'_>, resource: &Word, name: Option<&Word>) -> bool
     ensures { IsTrue result
         ↔ (Any (λ w. ResourceWordMatches w resource.now) rule.now.resources
@@ -104,8 +106,8 @@ fn is_asked_url(word: &Word) -> bool
     gives_path(word)
 }
 
-// Whether the rule allows all that another one does, whatever is asked (own). Most are the same, and
-// most that don't cover another lack its first words.
+// Whether the rule allows every request that the other one allows (own). Two quick tests come
+// first: most rules are equal, and most that don't cover the other lack its first words.
 pub(crate) fn covers_rule(rule: &Rule, other: &Rule) -> Result<bool, AllocError>
     ensures { IfOk result (λ covers. IsTrue covers → CoversAll rule.now other.now) }
 {

@@ -46,7 +46,7 @@ pub(crate) fn add_gained<'p>(
     add_of_flagged(alloc, kind, &asked, after, flags, findings)
 }
 
-// Adds the permissions of the bindings that are flagged, where the policy asked doesn't allow them.
+// Adds the permissions of the flagged bindings that the policy `asked` doesn't allow.
 fn add_of_flagged<'p>(
     alloc: Global,
     kind: ChangeKind,
@@ -70,7 +70,7 @@ fn add_of_flagged<'p>(
     Ok(())
 }
 
-// Adds the permissions of the binding at this place that the policy asked doesn't allow.
+// Adds the permissions of the binding at this place that the policy `asked` doesn't allow.
 fn add_of_binding<'p>(
     alloc: Global,
     asked: &AskedPolicy<'_>,
@@ -97,7 +97,7 @@ fn add_of_binding<'p>(
 }
 
 // Adds the permissions that the principal has by the binding at this place and that the policy
-// asked doesn't allow.
+// `asked` doesn't allow.
 fn add_of_principal<'p>(
     alloc: Global,
     asked: &AskedPolicy<'_>,
@@ -127,8 +127,8 @@ fn add_of_principal<'p>(
     add_of_grants(alloc, &search, after, place, findings)
 }
 
-// A search for the permissions that a principal has by a binding, and that these rules of the other
-// policy don't allow.
+// A search for the permissions that a principal has by a binding, and that the rules `others` of
+// the other policy don't allow.
 #[derive(Clone, Copy)]
 struct Search<'a, 'p> {
     origin: &'a Origin<'p>,
@@ -136,17 +136,17 @@ struct Search<'a, 'p> {
     namespace: Option<&'a Word>,
     principal: &'a Principal,
     others: &'a [&'a Rule],
-    // The same rules with their words in order, where a permission is asked for.
+    // The rules of `others` with their words in order; empty until single permissions are tested.
     ordered: &'a [OrderedRule<'a>],
 }
 
 // How many rules of the other policy are looked at behind the last one that was found.
 const NEAR: usize = 64;
 
-// Adds the permissions by the grants of the binding at this place. A rule that one of the other
-// policy's covers gives none. Rules mostly stand in one order on both sides, so the first is looked
-// for among all, and each next one only near the last one found: the others can be many more than
-// the binding's own.
+// Adds the permissions by the grants of the binding at this place. A rule that a rule of the other
+// policy covers gives none. Most rules have the same order on both sides. So only the first is
+// searched among all rules of the other policy, and each later one near the last one found: the
+// other policy can have many more rules than the binding.
 fn add_of_grants<'a, 'p>(
     alloc: Global,
     search: &'a Search<'a, 'p>,
@@ -325,8 +325,8 @@ fn add_urls<'a, 'p>(
     Ok(())
 }
 
-// Adds one permission, unless no request is for it, the other rules allow all that it stands for,
-// or it was found already.
+// Adds one permission, unless it stands for no request, one of the other rules covers it, or it was
+// found already.
 fn add<'p>(
     alloc: Global,
     search: &Search<'_, 'p>,

@@ -1,5 +1,5 @@
-//! What a change of policies lets people do, and what it takes from them: exact over all requests
-//! that there can be.
+//! What a change of policies lets users do, and what it takes from them, exactly, over all possible
+//! requests.
 #![tactic(auto)]
 
 mod alike;

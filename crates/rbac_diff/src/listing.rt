@@ -12,8 +12,8 @@ use std::alloc::Global;
 use std::collections::btree_map::IntoIter;
 use std::marker::Model;
 
-/// The changes that weren't taken yet, in order of how their permissions are printed (own). What a
-/// change takes in memory is freed as soon as the change itself is. Contracts see the list of them.
+/// The changes that are left, in order of the printed permissions (own). The memory of a change is
+/// freed together with the change. Contracts see the list of these changes.
 #[derive(Drop)]
 pub struct Changes<'p> {
     left: IntoIter<Word, Origin<'p>, Global>,

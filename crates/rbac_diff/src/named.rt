@@ -4,8 +4,8 @@ ghost use Rattle.std.specs.Prelude.{◌<◌, IfSome, length};
 
 use rbac_model::Named;
 
-// The place of the object that has this one's name, looked for from `from` on, if objects are looked
-// for in order. `from` moves there, or to where the object would stand.
+// The place of this object's namesake, searched from `from` on. `from` moves there, or to where the
+// namesake would be. So namesakes are found if objects are looked up in order.
 pub(crate) fn namesake_from<T: Named>(objects: &[T], from: &mut usize, object: &T) -> Option<usize>
     ensures { IfSome result (λ at. at < length objects.now) }
 {

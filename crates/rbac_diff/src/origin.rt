@@ -9,7 +9,7 @@ use std::marker::Model;
 use std::rc::Rc;
 
 // Whether a permission is gained or lost, and by which binding. A binding can have millions of
-// permissions, so each holds no more than a pointer to what is the same for all of them.
+// permissions, so each has only a pointer to what they share.
 #[derive(Drop)]
 pub(crate) struct Origin<'p> {
     shared: Rc<Shared<'p>>,

@@ -9,10 +9,10 @@ use rbac_terms::{Principal, Word};
 use rbac_text::{put_choice_and_tab, put_field_and_tab};
 use std::alloc::{AllocError, Global};
 
-// What a word ends in that has several stars at its end.
+// The end of a word that ends in several stars.
 const TWO_STARS: &[u8] = b"**";
 
-// Most permissions' texts are no longer than this. A longer one only makes its buffer grow.
+// Most permissions' texts have no more bytes than this. A longer one only makes its buffer grow.
 const LIKELY_LEN: usize = 128;
 
 // Who may use a verb word on what.
@@ -23,7 +23,8 @@ pub(crate) struct Permission<'a> {
     pub(crate) target: Permitted<'a>,
 }
 
-// What is permitted. No name stands for any name, and no namespace for all namespaces and none.
+// What is permitted. A missing name means any name; a missing namespace means all namespaces and
+// none.
 #[derive(Clone, Copy)]
 pub(crate) enum Permitted<'a> {
     Resource {

@@ -1,4 +1,5 @@
-//! Rules of the other policy that share words with a rule: no other one covers a permission of it.
+//! Rules of the other policy that share words with a rule: only these can cover a permission of the
+//! rule.
 
 ghost use Rattle.std.specs.Prelude.{◌↔◌, Any, IfOk, IsTrue};
 ghost use Rattle.rbac_model.specs.OwnWords.{AllowsUrlWord};
@@ -10,7 +11,7 @@ use rbac_model::allows_url_word;
 use rbac_terms::{Rule, Word, group_matches, resource_matches, verb_matches};
 use std::alloc::{AllocError, Global};
 
-// Those of these rules that share words with the rule.
+// The given rules that share words with the rule.
 pub(crate) fn sharing<'a>(
     alloc: Global,
     rules: &[&'a Rule],
@@ -27,7 +28,7 @@ pub(crate) fn sharing<'a>(
     Ok(near)
 }
 
-// Whether the held rule allows a verb of the other, and a resource or a URL of it.
+// Whether the held rule allows a verb of the rule, and a resource or a URL of it.
 fn shares_words(held: &Rule, rule: &Rule) -> bool
     ensures { IsTrue result ↔ SharesWords held.now rule.now }
 {

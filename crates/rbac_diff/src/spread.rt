@@ -1,7 +1,7 @@
-//! The order in which the words of a rule are taken: every second one, and then the others. Words
-//! mostly stand nearly in order. A map that takes permissions in as they stand is half empty, since
-//! a node is split when it is full, and nothing comes into its first half again. The second turn
-//! fills these halves.
+//! The order in which the words of a rule are taken: every second one, and then the others. Most
+//! rules have their words nearly in order. A map whose entries are inserted in order is half empty:
+//! a full node is split, and nothing is inserted into its first half again. The second turn fills
+//! these halves.
 
 ghost use Rattle.std.specs.Prelude.{◌≡◌, ◌<◌, ◌↔◌, IfOk, Contains, map};
 ghost use Rattle.rbac_terms.specs.Text.{Text};
@@ -23,7 +23,7 @@ pub(crate) fn spread<'a>(alloc: Global, words: &'a [Word]) -> Result<Vec<&'a Wor
     Ok(spread)
 }
 
-// The place of the word whose turn it is, of so many.
+// The place of the word to take in this turn, of `count` words.
 fn place_at(turn: usize, count: usize) -> usize
     requires { turn < count }
     ensures place { result ≡ spread_place turn count }

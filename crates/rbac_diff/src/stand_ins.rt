@@ -1,4 +1,4 @@
-//! Who stands in for everybody that a permission is for.
+//! Stand-ins: the principals that stand for everybody whom a permission is for.
 
 ghost use Rattle.std.specs.Prelude.{◌≡◌, ◌≤◌, [], IfOk, OnOk, Some};
 ghost use Rattle.std.specs.Prelude.{codes, length, MatchOption};
@@ -62,7 +62,7 @@ impl<'p> AskedPolicy<'p> {
         })
     }
 
-    // The rules that everybody has whom the principal stands for, wherever a binding in that
+    // The rules that apply to everyone whom the principal stands for, wherever a binding in that
     // namespace, or in none, is live.
     pub(crate) fn rules_of(
         &self,
@@ -86,8 +86,8 @@ impl<'p> AskedPolicy<'p> {
         Ok(rules)
     }
 
-    // One or two principals: bindings that name one of them name everybody whom this one stands
-    // for.
+    // The one or two stand-ins of a principal: a binding that names a stand-in names everyone whom
+    // the principal stands for.
     fn stand_ins<'a>(&'a self, principal: &'a Principal) -> (&'a Principal, Option<&'a Principal>)
         ensures { given_of principal.now ≡ []
             → one_or_two result.0.now (option_copied result.1) ≡ stand_ins principal.now }
@@ -113,7 +113,7 @@ fn subjects_of<'p>(alloc: Global, policy: &'p Policy) -> Result<SubjectIndex<'p>
     }
 }
 
-// A member of the group of all that have signed in.
+// A member of the group of all authenticated users.
 fn signed_in(alloc: Global) -> Result<Principal, AllocError>
     ensures { IfOk result (λ member. member ≡ AsMember (codes "system:authenticated")) }
 {

@@ -8,8 +8,8 @@ use crate::unchanged::same_rule;
 use rbac_terms::Rule;
 use std::alloc::AllocError;
 
-// The place of one of so many of these rules, from that place on, that covers the rule. Prefers the
-// same rule, word for word, where it finds that; otherwise the first that covers the rule.
+// The place of a rule that covers the given one, among `count` rules from `first` on. Prefers the
+// same rule, word for word; otherwise the first that covers the given one.
 #[tactic(auto, using(crate::proofs::CoveringRules::stands_covers))]
 pub(crate) fn covering_place(
     rules: &[&Rule],
@@ -26,7 +26,7 @@ pub(crate) fn covering_place(
     first_covering(rules, first, count, rule)
 }
 
-// Whether the rule stands among these at that place, word for word.
+// Whether the rule at that place is the given one, word for word.
 fn stands_at(rules: &[&Rule], at: usize, rule: &Rule) -> bool
     ensures within { IsTrue result → at < length rules.now }
     ensures stands { IsTrue result → HasRule rules.now rule.now }
@@ -34,8 +34,8 @@ fn stands_at(rules: &[&Rule], at: usize, rule: &Rule) -> bool
     rules.get(at).is_some_and(|held| same_rule(held, rule))
 }
 
-// Where the rule stands among so many of these, from that place on; the place itself, if it doesn't
-// stand there.
+// The place of the same rule among `count` rules from `first` on, or `first` if none of these is
+// the same.
 fn place_near(rules: &[&Rule], first: usize, count: usize, rule: &Rule) -> usize {
     let found = rules
         .iter()
@@ -45,7 +45,7 @@ fn place_near(rules: &[&Rule], first: usize, count: usize, rule: &Rule) -> usize
     first.saturating_add(found.unwrap_or(0))
 }
 
-// The first place among so many of these rules, from that place on, of one that covers the rule.
+// The first place, among `count` rules from `first` on, of a rule that covers the given one.
 fn first_covering(
     rules: &[&Rule],
     first: usize,

@@ -8,10 +8,11 @@ use rbac_text::put_field_and_tab;
 use std::alloc::{AllocError, Global};
 use std::collections::BTreeMap;
 
-// The places of subjects, each under what it says.
+// The places of subjects, by their texts.
 type SubjectPlaces = BTreeMap<Vec<u8>, usize>;
 
-// Whether each of these subjects is among the others. They are mostly found in one order.
+// Whether each of these subjects is among the others. Most lists have them in the same order, so
+// this is tried first.
 pub(crate) fn are_among(
     alloc: Global,
     subjects: &[Subject],
@@ -26,8 +27,8 @@ pub(crate) fn are_among(
     are_at(alloc, subjects, &places, others)
 }
 
-// Whether each of these subjects is found among the others, behind those before it: so they are
-// where subjects were only added.
+// Whether these subjects are found among the others in the same order, as where subjects were only
+// added.
 fn are_among_in_order(subjects: &[Subject], others: &[Subject]) -> bool
     ensures { IsTrue result → AreAmong subjects.now others.now }
 {
@@ -43,7 +44,7 @@ fn are_among_in_order(subjects: &[Subject], others: &[Subject]) -> bool
     true
 }
 
-// Where these subjects stand.
+// The places of these subjects.
 fn places_of(alloc: Global, subjects: &[Subject]) -> Result<SubjectPlaces, AllocError> {
     let mut places = BTreeMap::new(alloc);
     for (place, subject) in subjects.iter().enumerate() {
@@ -52,7 +53,7 @@ fn places_of(alloc: Global, subjects: &[Subject]) -> Result<SubjectPlaces, Alloc
     Ok(places)
 }
 
-// Whether each of these subjects stands among the others at the place that is told for it.
+// Whether `others` has each of these subjects at the place listed for it.
 fn are_at(
     alloc: Global,
     subjects: &[Subject],
@@ -111,7 +112,8 @@ fn same_subject(a: &Subject, b: &Subject) -> bool
     }
 }
 
-// What a subject says, in words that are told apart by where they stand.
+// The text of a subject: each word behind what it is, so that different subjects have different
+// texts.
 pub(crate) fn subject_text(alloc: Global, subject: &Subject) -> Result<Vec<u8>, AllocError> {
     let mut text = Vec::new(alloc);
     match subject {
@@ -127,7 +129,7 @@ pub(crate) fn subject_text(alloc: Global, subject: &Subject) -> Result<Vec<u8>, 
     Ok(text)
 }
 
-// Adds a word behind what it is.
+// Adds what a word is, and then the word.
 pub(crate) fn put(text: &mut Vec<u8>, what: &str, word: &Word) -> Result<(), AllocError> {
     put_field_and_tab(text, what.as_bytes())?;
     put_field_and_tab(text, word.as_bytes())

@@ -11,9 +11,9 @@ use rbac_model::Policy;
 use rbac_terms::{Rule, Words};
 use std::alloc::{AllocError, Global};
 
-// Whether the binding at that place grants no more than the other policy's at the second one: that
-// one is in the same namespace, or in none as this one, its rules cover this one's, and it has all
-// of its subjects.
+// Whether the binding at `place` grants no more than the other policy's binding at `at`: both are
+// in the same namespace or in none, and the other binding has all of this one's subjects, and rules
+// that cover this one's.
 pub(crate) fn grants_no_more(
     alloc: Global,
     own: &Policy,
@@ -36,8 +36,8 @@ pub(crate) fn grants_no_more(
     are_among(alloc, binding.subjects.as_slice(), held.subjects.as_slice())
 }
 
-// Whether the rules of the binding at that place are covered by those of the other policy's at the
-// second one, one by one.
+// Whether the rules of the binding at `place` are covered, one by one, by those of the other
+// policy's binding at `at`.
 fn are_rules_covered(
     own: &Policy,
     place: usize,
@@ -62,8 +62,7 @@ fn are_rules_covered(
     Ok(true)
 }
 
-// Whether the rule of the grant with the first number is covered by that of the other policy's
-// grant with the second one.
+// Whether the rule of grant `no` is covered by the rule of the other policy's grant `other_no`.
 fn is_grant_covered(
     own: &Policy,
     no: u32,

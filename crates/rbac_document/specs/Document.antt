@@ -31,12 +31,12 @@ groups_text [] = []
 groups_text (group ∷ groups) =
     codes ", \"groups\": [" ++ join_by quoted (codes ", ") (group ∷ groups) ++ codes "]"
 
--- who asks is a user, and not a member of a group
+-- the principal is a user, and not a member of a group
 abbrev pub is_user : Who → Bool
 is_user (AsUser name given) = true
 is_user (AsMember group) = false
 
--- what stands before the name of a user, or of a group
+-- the text before the name of a user, or of a group
 abbrev pub before_name : Bool → Text
 before_name true = codes "{\"user\": "
 before_name false = codes "{\"group\": "
@@ -46,7 +46,7 @@ abbrev pub principal_text : Who → Text
 principal_text who =
     before_name (is_user who) ++ quoted (who_name who) ++ groups_text (given_of who) ++ codes "}"
 
--- what stands after the text of a resource
+-- the text after the text of a resource
 abbrev pub rest_of_resource : Bool → Text
 rest_of_resource true = codes ", \"namespaced\": true}"
 rest_of_resource false = codes ", \"namespaced\": false}"

@@ -8,9 +8,9 @@ use crate::quoted::put_quoted;
 use rbac_universe::UniverseLists;
 use std::alloc::AllocError;
 
-/// Adds the Universe document of these lists (own): each list as given, an entry a line. `once_each`
-/// makes lists that each have their entries once and in order. If it runs out of memory, a prefix of
-/// the document may have been added.
+/// Adds the Universe document of these lists (own): each list as it is, with each entry on a line
+/// of its own. `once_each` makes lists with each entry once and in order. If it runs out of memory,
+/// a prefix of the document may have been added.
 pub fn put_document(document: &mut Vec<u8>, lists: &UniverseLists) -> Result<(), AllocError>
     ensures { OnOk result (document.new.items ≡ document.old.items ++ document_text lists.now) }
 {

@@ -1,4 +1,4 @@
-//! Entries of a list, as they stand in a document.
+//! Entries of a list, as a document has them.
 
 ghost use Rattle.std.specs.Prelude.{◌≡◌, ◌++◌, OnOk, codes};
 ghost use Rattle.std.specs.List.{join_by, flat_map};
@@ -50,7 +50,7 @@ fn is_user(principal: &Principal) -> bool
     principal.key().as_bytes().first() == Some(&b'u')
 }
 
-// What stands before the name of a user, or of a group.
+// The text before the name of a user, or of a group.
 fn before_name(of_user: bool) -> &'static [u8]
     ensures { result.now ≡ before_name of_user }
 {
@@ -85,7 +85,7 @@ impl Entry for ListedResource {
     }
 }
 
-// What stands after the text of a resource.
+// The text after the text of a resource.
 fn rest_of_resource(namespaced: bool) -> &'static [u8]
     ensures { result.now ≡ rest_of_resource namespaced }
 {
@@ -96,7 +96,7 @@ fn rest_of_resource(namespaced: bool) -> &'static [u8]
     }
 }
 
-// Adds a text as a JSON string, after what stands before it.
+// Adds the text `before`, and then a text as a JSON string.
 fn put_after(document: &mut Vec<u8>, before: &[u8], text: &[u8]) -> Result<(), AllocError>
     ensures { OnOk result
         (document.new.items ≡ document.old.items ++ before.now ++ quoted text.now) }
@@ -107,7 +107,8 @@ fn put_after(document: &mut Vec<u8>, before: &[u8], text: &[u8]) -> Result<(), A
 
 /// Adds a list, each entry on a line of its own.
 pub(crate) fn put_list<T: Entry>(document: &mut Vec<u8>, entries: &[T]) -> Result<(), AllocError>
-    ensures { OnOk result (document.new.items ≡ document.old.items ++ list_text T.text entries.now) }
+    ensures { OnOk result
+        (document.new.items ≡ document.old.items ++ list_text T.text entries.now) }
 {
     if entries.is_empty() {
         return document.extend_from_slice(b"[]");

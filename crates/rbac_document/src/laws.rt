@@ -9,7 +9,7 @@ ghost use Rattle.rbac_universe.specs.Sets.{IsUniverseOf, HasUniverseFault};
 ghost use Rattle.rbac_manifest.specs.Load.{LoadedView, IsLoaded};
 ghost use Rattle.rbac_document.specs.Document.{AreOnceEach, AreReadable, IsDocument};
 
-/// Lists have one document, so everyone who prints the same lists prints the same text (own).
+/// Lists have one document: whoever prints the same lists prints the same text (own).
 pub fn documents_are_one()
     ensures { (lists : UniverseLists) (text other : Text) → IsDocument lists text
         → IsDocument lists other → text ≡ other }

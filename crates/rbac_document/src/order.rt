@@ -48,9 +48,10 @@ impl Ordered for Principal {
     ghost named_name = { principal_named_name };
 
     fn cmp_name(&self, other: &Self) -> Ordering {
-        self.key()
-            .cmp(other.key())
-            .then(self.given().cmp(other.given()))
+        match self.key().cmp(other.key()) {
+            Ordering::Equal => self.given().cmp(other.given()),
+            by_key => by_key,
+        }
     }
 }
 
@@ -109,7 +110,7 @@ fn in_order<T: Ordered + Drop>(listed: Items<T>) -> Result<Items<T>, AllocError>
     ensures { IfOk result (IsOnceEach (by_name T.name) listed) }
 {
     let mut entries = listed.into_vec();
-    entries.sort_by(|a, b| a.cmp_name(b))?;
+    entries.sort_unstable_by(|a, b| a.cmp_name(b));
     entries.dedup_by(|a, b| a.cmp_name(b).is_eq());
     Ok(Items::from_vec(entries))
 }

@@ -67,8 +67,8 @@ fn widgets(rt: &impl Abort, alloc: Global, namespaced: &[bool]) -> Catalogue {
     catalogue
 }
 
-// A resource of the group, whether it is outside all namespaces where the second version alone is
-// namespaced, and where neither is.
+// A resource of the group, and whether it is cluster-scoped: if the second version alone is
+// namespaced, and if neither is.
 const CLUSTER_ONLY: &[(&str, bool, bool)] = &[
     ("widgets", false, true),
     ("widgets/scale", false, true),

@@ -1,4 +1,4 @@
-//! What a change makes of objects, and the policy of objects.
+//! The objects after a change, and the policy of objects.
 
 use crate::objects::{Kind, Row, binds, has_verb, object};
 use crate::policies::{RuleRow, binding, cluster_role, rule};
@@ -51,7 +51,8 @@ const BEFORE: &[Row<'static>] = &[
     (Kind::Role, "dev", "b", "get"),
 ];
 
-// What is taken away, what is put over, and what there is then.
+// What is tried, the objects that are taken away, those that are put over, and those after the
+// change.
 type Change<'a> = (&'a str, &'a [Row<'a>], &'a [Row<'a>], &'a [Row<'a>]);
 
 const CHANGES: &[Change<'static>] = &[
@@ -145,8 +146,8 @@ fn input(rt: &impl Abort, alloc: Global, text: &[u8]) -> Input {
     built(rt, read_slice(alloc, &mut source))
 }
 
-// Six objects, and a Namespace. The ClusterRole `readers` gathers the two rules of `pods`; the later
-// Role `a` has two rules, and the earlier one has one.
+// Six objects, and a Namespace. The ClusterRole `readers` gathers the two rules of `pods`; the
+// later Role `a` has two rules, and the earlier one has one.
 const OBJECTS: &[u8] = br#"{"apiVersion": "v1", "kind": "List", "items": [
     {"apiVersion": "rbac.authorization.k8s.io/v1", "kind": "Role", "metadata": {"name": "a", "namespace": "dev"},
      "rules": [{"verbs": ["get"], "apiGroups": [""], "resources": ["pods"]}]},
@@ -193,7 +194,7 @@ const NAMELESS: &[u8] =
     br#"{"apiVersion": "v1", "kind": "List", "items": [{"apiVersion": "v1", "kind": "Pod"},
     {"apiVersion": "rbac.authorization.k8s.io/v1", "kind": "ClusterRole"}]}"#;
 
-// The second file, the item in it, and why that is refused; the first file is fine.
+// The second file, the item that is refused in it, and why. The first file is accepted.
 const REFUSED: &[(&[u8], Option<usize>, Cause)] = &[
     (b"{\"kind\": \"List\"", None, Cause::NotJson),
     (NAMELESS, Some(1), Cause::BadMetadata),

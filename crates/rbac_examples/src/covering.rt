@@ -25,7 +25,7 @@ const LOGS: Row<'static> = [&["get"], &[""], &["*/log"], &[], &[]];
 
 const POD_LOGS: Row<'static> = [&["get"], &[""], &["pods/log"], &[], &[]];
 
-// Names of a list that is put in order, and the same names the other way round.
+// A list of names that is long enough to be put in order, and the same names backwards.
 const NAMES: &[&str] = &[
     "a", "b", "c", "d", "e", "f", "g", "h", "i", "j", "k", "l", "m", "n", "o", "p", "q",
 ];
@@ -34,7 +34,7 @@ const NAMES_BACK: &[&str] = &[
     "q", "p", "o", "n", "m", "l", "k", "j", "i", "h", "g", "f", "e", "d", "c", "b", "a",
 ];
 
-// What is asked, two rules, and whether the first covers the second.
+// What is tried, two rules, and whether the first covers the second.
 const COVERS: &[(&str, Row<'static>, Row<'static>, bool)] = &[
     (
         "URLs by their prefix",

@@ -32,7 +32,7 @@ const FOUR_TARGETS: &Listed<'static> = &Listed {
     urls: &["/x"],
 };
 
-// Comes after the candidates of each request.
+// Marks the end of the candidates of each request.
 const END: u32 = 100;
 
 // The numbers of the grants that allow get, then of those that allow list, on `/x`, nodes, pods and

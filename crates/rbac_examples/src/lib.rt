@@ -1,5 +1,5 @@
-//! Worked examples as tests of single public calls; tests/rows.json has everything that a command
-//! shows.
+//! Worked examples as tests of single public calls; tests/rows.json has those that a command line
+//! can show.
 #![tactic(auto)]
 
 #[cfg(test)]

@@ -126,8 +126,8 @@ fn shows(row: Option<Row<'_>>, resource: &str) -> bool {
     }
 }
 
-// Whether one matrix, asked three times, begins with these rows: all of them, those after the first
-// row's key, and those of every granting binding.
+// Whether one matrix gives these first rows when it is asked three times: for all rows, for those
+// after the first row's key, and for those of every granting binding.
 fn begins_again<'m>(
     rt: &impl Abort,
     index: &'m Index<'m>,
@@ -207,8 +207,8 @@ fn is_own(row: Option<Row<'_>>, namespace: &str) -> bool {
     }
 }
 
-// Whether the rows without repeats are one in the whole cluster, and, of every granting binding,
-// another one in `dev`.
+// Whether the rows without repeats are one in the whole cluster, and, with every granting binding,
+// also one in `dev`.
 fn lists_once(index: &Index<'_>, universe: &Universe, reaches: &[Reach], seats: &mut [Seat]) -> bool
     requires reaches { AreReaches index.now universe.now reaches.now }
     requires seats { length seats.old ≡ length index.now.grants }

@@ -184,8 +184,7 @@ fn gets_in(universe: &Universe, policy: &Policy, wanted: u32) -> bool {
         && askers.all(|(asker, verb)| counted(universe, policy, asker, verb) == wanted)
 }
 
-// Whether alice may get pods in this many namespaces by a role and a binding to it, both in this
-// namespace.
+// Whether alice may get pods in `wanted` namespaces by a role and its binding, both in `namespace`.
 fn lives_in(
     rt: &impl Abort,
     alloc: Global,

@@ -52,9 +52,9 @@ fn role(
     }
 }
 
-// The roles edit, view and admin select one another in a ring, and view selects the plain role q
-// too; the role alone selects only itself. The name of each, its label, and the label of the roles
-// that it selects.
+// The roles `edit`, `view` and `admin` select one another in a ring, and `view` selects the plain
+// role `q` too. The role `alone` selects only itself. A row has a role's name, its label, and the
+// label of the roles that it selects.
 const SMALL_RING: &[(&str, &str, &str)] = &[
     ("edit", "admin", "edit"),
     ("view", "edit", "view"),

@@ -162,7 +162,7 @@ const PAIRS: &Listed<'static> = &Listed {
     urls: &[],
 };
 
-// The names in order, so that each field of a key shows where its request comes in the order.
+// The names in ascending order; the first keys differ in them alone.
 const NAMES: &[&str] = &["Z", "a", "aa", "b", "é"];
 
 fn is_less(key: &Key, next: &Key) -> bool {

@@ -52,7 +52,8 @@ impl Write for Sip<'_> {
 
 const LIST: &[u8] = b"{\"kind\":\"List\"}";
 
-// Whether a reader that fails only after the list's end gives all of it, and any other a fault.
+// Whether a reader gives the whole list if it fails only after the list's end, and otherwise a
+// fault.
 fn reads_list(alloc: Global, drip: Drip<'_>) -> bool {
     let fails_at = drip.fails_at;
     let mut source = Source::new(drip);

@@ -1,4 +1,4 @@
-//! Tokens of keys and marks: worked ones, and the fault that any other text gets.
+//! Tokens of keys and marks, and the faults of texts that are no token.
 
 use crate::requests::keys_of;
 use crate::universes::Listed;
@@ -104,7 +104,7 @@ const NO_TOKENS: &[(&str, TokenFault)] = &[
         TokenFault::BadVersion,
     ),
     ("MQ", TokenFault::NotCanonical),
-    // A byte written by its code that is to be written as itself; digits in upper case; a backslash
+    // A byte with an escape that needs none; an escape with digits in upper case; a backslash
     // alone.
     (
         "MQl1OmFsaWNlCS0JZ2V0CS0JcG9kcwlceDYx",
@@ -143,8 +143,8 @@ fn is_digit(byte: u8) -> bool {
 }
 
 // Whether the answer is right for the first token with this byte at this place: K1 for a byte that
-// no token has; K2 if the first three bytes, in which the version and its tab are, say something
-// else; otherwise the key whose token the text is, or K3.
+// no token has; K2 if the first three bytes no longer hold the version and its tab; otherwise the
+// key whose token the text is, or K3.
 fn is_right_at(rt: &impl Abort, alloc: Global, text: &Word, at: usize, byte: u8) -> bool {
     match key_of_token(alloc, text) {
         Err(TokenFault::NotBase64) => !is_digit(byte),
@@ -175,9 +175,9 @@ fn each_byte_of_a_token_counts(rt: HostRuntime) {
     }
 }
 
-// Whether the answer is right for the first bytes of a token, fewer than all: never a key. One byte
-// past a multiple of four is no base64, and neither are bits at the end that aren't zero; the
-// version is whole from the first byte on.
+// Whether the answer is right for a proper prefix of a token: never a key. One byte more than a
+// multiple of four is no base64, and neither are bits at the end that aren't zero. The version is
+// complete from the first byte on.
 fn refuses_prefix(alloc: Global, prefix: &Word) -> bool {
     let past_four = prefix.as_bytes().len() % 4;
     match key_of_token(alloc, prefix) {

@@ -1,6 +1,6 @@
 //! Texts and lists of them, which the other tests are made of. Tests stop if they run out of memory
-//! while building: with `?` each early return would drop everything built so far, which would be
-//! proved too.
+//! while building: with `?` each early return would drop everything built so far, and each drop
+//! would be proved.
 
 use rbac_terms::{Word, Words};
 use std::alloc::Global;

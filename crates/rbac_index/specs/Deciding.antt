@@ -50,8 +50,8 @@ GrantsOf p who verb t at n =
 abbrev pub NoneAmong : PolicyView → Who → Text → What → ℕ → ℕ → Type 0
 NoneAmong p who verb t from to = (at n : ℕ) → from ≤ at → at < to → ¬ GrantsOf p who verb t at n
 
--- the answer shows the first grant, of a binding at these places that names who asks, whose rule
--- allows the verb on the target
+-- the answer shows the first grant whose rule allows the verb on the target, among those of the
+-- bindings at these places that name who asks
 pub record IsFirstAmong (p : PolicyView) (who : Who) (verb : Text) (t : What) (from to : ℕ)
     (why : Why) : Type 0 where
   pub at : ℕ

@@ -9,12 +9,12 @@ use Rattle.rbac_index.specs.declared.requested.Requested.TheVariants.{ThisTarget
 use Rattle.rbac_index.specs.declared.requested.Requested.TheVariants.{AnyName as OfAnyName}
 use Rattle.rbac_index.specs.Requested.{RequestedView, ThisTarget, AnyName}
 
--- what is requested
+-- what contracts see of what is requested
 abbrev pub requested_of : Requested → RequestedView
 requested_of (This target) = ThisTarget target.now
 requested_of (OfAnyName target) = AnyName target.now
 
--- the holder that was seen
+-- the holder of a sighting
 abbrev pub holder_of : Sighting → HolderView
 holder_of s = record {
   key = s.key;
@@ -23,21 +23,20 @@ holder_of s = record {
   subject_place = s.subject_place;
 }
 
--- what was seen, in order
+-- the holders of sightings, in order
 abbrev pub sighted : List Sighting → List HolderView
 sighted ss = map holder_of ss
 
--- the binding in which a key is listed once: its place where each key is listed with every binding,
--- and otherwise 0 for all of them
+-- the number in a label: the binding's place if each key is listed with every binding, otherwise 0
 abbrev pub once_in : Bool → ℕ → ℕ
 once_in true binding_place = binding_place
 once_in false binding_place = 0
 
--- what is listed once: the key, behind the place of the binding in which it is listed once
+-- the label of a sighting, which is listed once: the key after that number
 abbrev pub label_of : Bool → Sighting → Text
 label_of every s = once_in every s.binding_place ∷ s.key
 
--- the labels of what was seen, in order
+-- the labels of sightings, in order
 abbrev pub labels_seen : Bool → List Sighting → List Text
 labels_seen every ss = map (label_of every) ss
 
@@ -47,7 +46,7 @@ abbrev pub KeepsFirst : {S : Type 0} → IndexMap ℕ Sighting S → IndexMap �
 KeepsFirst old new rank s = ((new ≡ old) × Contains (keys old) rank)
     ⊎ ((new.entries ≡ old.entries ++ (rank, s) ∷ []) × ¬ Contains (keys old) rank)
 
--- the holder that is shown
+-- what contracts see of a holder
 abbrev pub holder_shown : Holder → HolderView
 holder_shown x = record {
   key = x.principal.now;

@@ -17,7 +17,8 @@ abbrev pub BringsRuleAt : Held → Text → RequestedView → ℕ → Type 0
 BringsRuleAt h verb t i =
     (b : Binding) × (slice_get h.bindings i ≡ Some b) × BringsRequested h b verb t
 
--- the binding at that place is live there and brings a rule that allows the verb on what is requested
+-- the binding at that place is live in the scope, and brings a rule that allows the verb on what is
+-- requested
 abbrev pub BringsAt : Held → Scope → Text → RequestedView → ℕ → Type 0
 BringsAt h scope verb t i =
     (b : Binding) × (slice_get h.bindings i ≡ Some b) × LiveIn scope b.namespace (target_given t)
@@ -32,44 +33,45 @@ HoldsThere h scope verb t x = (slice_get h.bindings x.binding_place ≡ Some x.b
 abbrev pub IsEarlier : HolderView → HolderView → Type 0
 IsEarlier x y = IsBefore x.binding_place x.subject_place y.binding_place y.subject_place
 
--- what holds the permission by a pair of places before this one, of a binding and of a subject in
--- it, in order
+-- the holders of the permission by a pair of places (of a binding, and of a subject in it) before
+-- the pair i and j, in order
 pub record AreSeen (h : Held) (scope : Scope) (verb : Text) (t : RequestedView) (i j : ℕ)
     (xs : List HolderView) : Type 0 where
   pub ordered : AllPairs IsEarlier xs
   pub exact : (x : HolderView) → Contains xs x
       ↔ (HoldsThere h scope verb t x × IsBefore x.binding_place x.subject_place i j)
 
--- all that holds the permission by a pair of places, in order
+-- all holders of the permission by a pair of places, in order
 pub record AreAllSeen (h : Held) (scope : Scope) (verb : Text) (t : RequestedView)
     (xs : List HolderView) : Type 0 where
   pub ordered : AllPairs IsEarlier xs
   pub exact : (x : HolderView) → Contains xs x ↔ HoldsThere h scope verb t x
 
--- x and y have one key, and where every binding is asked for also one binding
+-- x and y have the same key, and, if every binding is listed, the same binding
 abbrev pub IsAlike : Bool → HolderView → HolderView → Type 0
 IsAlike every x y = (x.key ≡ y.key)
     × (once_in every x.binding_place ≡ once_in every y.binding_place)
 
--- the first of those of xs that are alike, in order
+-- the first of the elements of xs that are alike, in order
 pub record AreFirsts (every : Bool) (xs firsts : List HolderView) : Type 0 where
   pub ordered : AllPairs IsEarlier firsts
   pub exact : (x : HolderView) → Contains firsts x
       ↔ (Contains xs x × ((y : HolderView) → Contains xs y → IsAlike every y x → ¬ IsEarlier y x))
 
--- a request is allowed exactly if some holder's key is that of who asks, or of one of its groups
+-- a request is allowed exactly if some holder has the key of who asks, or of one of the groups of
+-- who asks
 abbrev pub AllowsByHolders : Held → Text → Text → What → List HolderView → Type 0
 AllowsByHolders h namespace verb t xs = (who : Who) → Allows h who namespace verb t
     ↔ Any (λ x. IsKeyFor who x.key) xs
 
--- a binding grants the request where it is asked: it is live there, names who asks, and brings a rule
--- that allows it (Using RBAC Authorization)
+-- a binding grants the request in a scope: it is live there, names who asks, and brings a rule that
+-- allows the request (Using RBAC Authorization)
 abbrev pub GrantsIn : Held → Scope → Binding → Who → Text → RequestedView → Type 0
 GrantsIn h scope b who verb t = LiveIn scope b.namespace (target_given t) × BindingNames b who
     × BringsRequested h b verb t
 
--- the binding at a place grants a request exactly if a holder is listed with it whose key is that
--- of who asks, or of one of its groups
+-- the binding at a place grants a request exactly if the list has this binding with the key of who
+-- asks, or with the key of one of the groups of who asks
 abbrev pub GrantsByHolders : Held → Scope → Text → RequestedView → List HolderView → Type 0
 GrantsByHolders h scope verb t xs = (who : Who) (i : ℕ) (b : Binding)
     → slice_get h.bindings i ≡ Some b

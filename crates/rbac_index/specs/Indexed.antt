@@ -29,18 +29,19 @@ IsByRule p r n = (g : GrantView) × (slice_get p.grants n ≡ Some g) × (g.rule
 abbrev pub IsRun : PolicyView → List Rule → ℕ → Type 0
 IsRun p rs start = (k : ℕ) (r : Rule) → slice_get rs k ≡ Some r → IsByRule p r (start + k)
 
--- where the runs of grants by the rules of each row begin: they end before grant number `count`, and
--- each grant before it is in one of them
+-- where the runs of grants by the rules of each row begin: all grants of a run have numbers below
+-- `count`, and each grant below `count` is in a run
 pub record AreStarts (p : PolicyView) (rows : List (List Rule)) (count : ℕ)
     (starts : List (List ℕ)) : Type 0 where
   pub len : length starts ≡ length rows
   pub sound : (row start : ℕ) (rs : List Rule) → slice_get rows row ≡ Some rs
-      → Contains (slice_index_or starts row []) start → (start + length rs ≤ count) × IsRun p rs start
+      → Contains (slice_index_or starts row []) start
+      → (start + length rs ≤ count) × IsRun p rs start
   pub complete : (n : ℕ) → n < count
       → (row start place : ℕ) × (r : Rule) × IsRuleAt rows row place r
       × Contains (slice_index_or starts row []) start × (n ≡ start + place)
 
--- the rules are there and listed by their words, and the grants are listed by runs
+-- an index has the rules of all roles, lists them by their words, and lists the grants by runs
 pub record IsIndexOf (p : PolicyView) (ws : List Written) (l : RuleLists)
     (starts : List (List ℕ)) : Type 0 where
   pub written : AreWritten (written_rules p.held) ws
@@ -52,12 +53,12 @@ pub record IsIndexOf (p : PolicyView) (ws : List Written) (l : RuleLists)
 abbrev pub numbers_by : List (List ℕ) → Written → List ℕ
 numbers_by starts w = map (λ start. start + w.place) (slice_index_or starts w.row [])
 
--- the rule's row is there, and the numbers of its grants fit in a u32
+-- the rule's row exists, and the numbers of its grants fit in a u32
 abbrev pub HaveNumbers : List (List ℕ) → Written → Type 0
 HaveNumbers starts w = (w.row < length starts)
     × All (λ start. start + w.place < 2 ^ 32) (slice_index_or starts w.row [])
 
--- the number is that of a grant by a rule, at one of these places, that allows the verb on what is
+-- the grant with that number is by a rule, at one of these places, that allows the verb on what is
 -- requested
 abbrev pub IsAllowedBy : List Written → List (List ℕ) → List ℕ → Text → RequestedView → ℕ → Type 0
 IsAllowedBy ws starts places verb t n = (at : ℕ) × Contains places at

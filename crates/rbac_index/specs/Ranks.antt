@@ -1,4 +1,4 @@
--- The ranks of labels among themselves.
+-- The ranks of labels.
 use Rattle.std.specs.Prelude.{◌≡◌, ◌≢◌, ℕ, ◌+◌, ◌<◌, ◌⊎◌, ◌∷◌, List, All, Any, Some}
 use Rattle.std.specs.Prelude.{length, slice_get, slice_index}
 use Rattle.std.specs.declared.cmp.Ordering.{Ordering}
@@ -6,7 +6,7 @@ use Rattle.rbac_terms.specs.Text.{Text, text_cmp}
 use Rattle.rbac_model.specs.Lists.{IsOnceEach}
 use Rattle.rbac_index.specs.declared.ranks.Placed.{Placed}
 
--- the rank of each label among the labels: its place in the list of them, each once, ascending
+-- the rank of each label: its place in the ascending list that has each label once
 pub record AreRanks (labels : List Text) (ranks : List ℕ) : Type 0 where
   pub once : List Text
   pub each : IsOnceEach text_cmp labels once
@@ -14,11 +14,11 @@ pub record AreRanks (labels : List Text) (ranks : List ℕ) : Type 0 where
   pub places : (i : ℕ) (label : Text) → slice_get labels i ≡ Some label
       → slice_get once (slice_index ranks i) ≡ Some label
 
--- the label that stands at a place
+-- the label: the key after its number
 abbrev pub placed_label : Placed → Text
 placed_label p = p.once_in ∷ p.key.now
 
--- the rank of the label that comes after the last, or is the same
+-- `next` is the rank of a label that is the last one, or comes right after it
 abbrev pub IsRankAfter : ℕ → Text → Text → ℕ → Type 0
 IsRankAfter rank last label next = ((last ≡ label) × (next ≡ rank))
     ⊎ ((last ≢ label) × (next ≡ rank + 1))

@@ -10,7 +10,7 @@ pub data RequestedView : Type 0 where
   ThisTarget : (t : What) → RequestedView
   AnyName : (t : What) → RequestedView
 
--- the target that is given
+-- the given target
 abbrev pub target_given : RequestedView → What
 target_given (ThisTarget t) = t
 target_given (AnyName t) = t

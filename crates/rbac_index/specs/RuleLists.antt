@@ -9,7 +9,7 @@ use Rattle.rbac_index.specs.declared.rule_lists.RuleLists.{RuleLists}
 abbrev pub Lists : Type 0
 Lists = BTreeMap Text (List ℕ)
 
--- what is listed under a word
+-- the numbers that are listed under a word
 abbrev pub listed : Lists → Text → List ℕ
 listed m w = unwrap_or (get text_cmp m w) []
 

@@ -18,7 +18,7 @@ abbrev pub AllowsKey : Text → Text → Text → What → GrantView → Type 0
 AllowsKey key namespace verb t g = Live g.binding.namespace namespace t × HasKey g.binding key
     × RuleAllows g.rule.rule verb t
 
--- why a key holds a permission: the first grant that allows the request to it, and the first
+-- why a key holds a permission: the first grant that allows the request to the key, and the first
 -- subject of the grant's binding that has the key (own)
 pub record IsWhyHeld (p : PolicyView) (key namespace verb : Text) (t : What) (g : GrantView)
     (subject_place : ℕ) : Type 0 where

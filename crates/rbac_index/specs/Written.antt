@@ -28,6 +28,6 @@ abbrev pub AreWritten : List (List Rule) → List Written → Type 0
 AreWritten rows ws = (row place : ℕ) (r : Rule) → HasWritten ws row place r
     ↔ IsRuleAt rows row place r
 
--- the rules themselves
+-- the rules, without their rows and places
 abbrev pub bare_rules : List Written → List Rule
 bare_rules ws = map (λ w. w.rule.now) ws

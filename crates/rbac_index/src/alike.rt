@@ -7,7 +7,7 @@ use crate::numbers::GrantNos;
 use rbac_model::{GrantPlace, Policy, RolePlace};
 
 // An earlier grant by the same rule as the grant with this number, found in the runs of each row of
-// rules: the first one, so that what is worked out for it serves them all.
+// rules. It is the first such grant, so that all of them share what is computed for it.
 pub(crate) fn earlier_alike(policy: &Policy, starts: &[GrantNos], no: u32) -> Option<u32>
     requires { no < length policy.now.grants }
     ensures { IfSome result (λ first. (first < no) × AreAlike policy.now first no) }

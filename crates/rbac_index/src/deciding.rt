@@ -43,7 +43,7 @@ pub(crate) fn first_allowing(
     None
 }
 
-// Why the binding at this place grants, whether or not it is live.
+// Why the binding at this place grants the request, whether or not it is live.
 fn by_binding<'p>(
     policy: &'p Policy,
     place: usize,
@@ -74,7 +74,7 @@ fn by_binding<'p>(
     })
 }
 
-// Why the first binding at these places that grants does so, whether or not it is live.
+// Why the first binding at these places that grants the request does so, whether or not it is live.
 pub(crate) fn first_among<'p>(
     policy: &'p Policy,
     from: usize,
@@ -98,8 +98,8 @@ pub(crate) fn first_among<'p>(
 
 /// Why the principal may use the verb on the target in this namespace; `None` if it may not (Using
 /// RBAC Authorization). The answer is the first grant that allows the request, in order of
-/// bindings, then of their rules (own). Looks only at the bindings that are live there, needs no
-/// index, and doesn't allocate.
+/// bindings, then of their rules (own). Looks only at the bindings that are live in the namespace,
+/// needs no index, and doesn't allocate.
 pub fn why_allowed<'p>(
     policy: &'p Policy,
     principal: &Principal,

@@ -14,27 +14,28 @@ use rbac_terms::{Binding, Word};
 use std::alloc::{AllocError, Global};
 use std::marker::Model;
 
-/// A holder: a principal's key, and a binding and the first subject there through which it holds the
-/// permission.
+/// A holder: a principal's key, with a binding and the first subject of this binding through which
+/// the key holds the permission.
 #[derive(Clone, Copy)]
 pub struct Holder<'a> {
     /// The principal's key: `u:` and a user's name, or `g:` and a group's (own).
     pub principal: &'a Word,
-    /// A binding through which it holds the permission: the first, or any where every binding is
-    /// asked for.
+    /// A binding through which the key holds the permission: the first one, or, if every binding is
+    /// listed, any.
     pub binding: &'a Binding,
-    /// The place of that binding among the bindings, from 0.
+    /// The place of that binding among the policy's bindings, from 0.
     pub binding_place: usize,
     /// The place, in that binding, of the first subject with the key, from 0.
     pub subject_place: usize,
 }
 
-/// Holders, each once, or once with each binding where every binding is asked for, in order of the
-/// bindings and subjects through which each holds the permission.
+/// Holders, in order of the bindings and subjects through which they hold the permission. Each is
+/// listed once, or, if every binding is listed, once with each binding.
 #[derive(Drop)]
 pub struct Holders<'p> {
-    // The first sighting of each label, by the label's rank among them. Ranks are always 0, 1, 2 and
-    // so on, so the author of an export, who chooses the keys, can't force collisions.
+    // The first sighting of each label, by the label's rank among all labels. Ranks are always 0,
+    // 1, 2 and so on, so the author of an export, who chooses the keys, can't force hash
+    // collisions.
     firsts: IndexMap<u32, Sighting<'p>>,
 }
 
@@ -106,7 +107,7 @@ fn first_by_rank<'p>(
     Ok(firsts)
 }
 
-// Keeps the sighting under its rank, unless one is there.
+// Keeps the sighting under its rank, unless the rank has one.
 fn keep_first<'p>(
     firsts: &mut IndexMap<u32, Sighting<'p>>,
     rank: u32,

@@ -96,7 +96,7 @@ impl<'p> Index<'p> {
         &self.subjects
     }
 
-    /// How many grants there are.
+    /// How many grants the policy has.
     pub fn len(&self) -> u32
         ensures { result ≡ length self.now.grants }
     {
@@ -123,7 +123,7 @@ impl<'p> Index<'p> {
     }
 
     /// The numbers, ascending, of the grants whose rule allows the verb on the target, regardless
-    /// of where their bindings are live and whom they name. X1 NoMemory if it runs out of memory.
+    /// of where their bindings are live and whom these name. X1 NoMemory if it runs out of memory.
     pub fn candidates(
         &self,
         alloc: Global,
@@ -157,8 +157,8 @@ impl<'p> Index<'p> {
         }
     }
 
-    /// Why the principal may use the verb on the target in this namespace, as [`why_allowed`]
-    /// answers it for the policy. Doesn't allocate.
+    /// Why the principal may use the verb on the target in this namespace: the answer of
+    /// [`why_allowed`] for the policy. Doesn't allocate.
     pub fn can_i(
         &self,
         principal: &Principal,
@@ -197,9 +197,10 @@ impl<'p> Index<'p> {
         self.holders(alloc, &scope, false, verb, requested)
     }
 
-    /// Who may use the verb on what is requested, where it is asked: each holder once, with the first
-    /// binding through which it holds the permission, or with `every` once with each such binding,
-    /// in order of bindings and subjects (own). X1 NoMemory if it runs out of memory.
+    /// Who may use the verb on what is requested, in this scope: each holder once, with the first
+    /// binding through which it holds the permission, or, with `every`, once with each such
+    /// binding. The holders are in order of bindings and subjects (own). X1 NoMemory if it runs out
+    /// of memory.
     pub fn holders(
         &self,
         alloc: Global,
@@ -219,7 +220,7 @@ impl<'p> Index<'p> {
     }
 }
 
-// The numbers of the grants by those rules at these places that allow the verb on what is requested.
+// The numbers of the grants by the rules at these places that allow the verb on what is requested.
 fn allowed_by(
     alloc: Global,
     rules: &[Written<'_>],

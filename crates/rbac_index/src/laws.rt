@@ -13,25 +13,26 @@ ghost use Rattle.rbac_index.specs.Requested.{AnyName, RequestedView, ThisTarget,
 ghost use Rattle.rbac_index.specs.WhoCan.{AreListedHolders, HoldsAt};
 ghost use Rattle.rbac_index.specs.WhyHeld.{IsWhyHeld};
 
-/// Who may use a verb on a target in a namespace, given the objects that are held, is one list: any
-/// two lists of the holders are the same, in the same order (own).
+/// The held objects determine the list of who may use a verb on a target in a namespace: any two
+/// such lists are the same, in the same order (own).
 pub fn holders_are_one()
     ensures { (held : Held) (namespace verb : Text) (t : What) (xs others : List HolderView)
         → AreHolders held namespace verb t xs
         → AreHolders held namespace verb t others → xs ≡ others }
 {}
 
-/// A principal may use a verb on a target in a namespace exactly if some holder's key is its own or
-/// that of one of its groups (own).
+/// A principal may use a verb on a target in a namespace exactly if some holder has the principal's
+/// key, or the key of one of its groups (own).
 pub fn holders_decide()
     ensures { (held : Held) (namespace verb : Text) (t : What) (xs : List HolderView)
         → AreHolders held namespace verb t xs
         → AllowsByHolders held namespace verb t xs }
 {}
 
-/// Why a principal may use a verb on a target is why one of its keys holds it: its own, or that of
-/// one of its groups. It is by no later grant than any of these keys holds it; and why a member of
-/// one group alone may use it is why the group's key holds it (own).
+/// The reason why a principal may use a verb on a target is the reason why one of its keys holds
+/// the permission: its own key, or the key of one of its groups. No key of the principal holds the
+/// permission by an earlier grant. The reason of a group's key is also the reason of a member of
+/// this group alone (own).
 pub fn keys_explain()
     ensures by_a_key { (p : PolicyView) (who : Who) (namespace verb : Text) (t : What)
         (g : GrantView) (at : ℕ) → IsWhy p who namespace verb t g at
@@ -45,9 +46,9 @@ pub fn keys_explain()
         → IsWhy p (AsMember group) namespace verb t g at }
 {}
 
-/// Who may use a verb on what is requested, where it is asked, is one list, with the first binding of each
-/// holder or with each; and in one namespace those with their first bindings are the holders
-/// there (own).
+/// The held objects determine the list of who may use a verb on what is requested, in a scope, with
+/// the first binding of each holder or with each binding. In one namespace, the list with first
+/// bindings is the list of the holders there (own).
 pub fn listed_holders_are_one()
     ensures one { (held : Held) (scope : Scope) (every : Bool) (verb : Text) (t : RequestedView)
         (xs others : List HolderView) → AreListedHolders held scope every verb t xs
@@ -57,17 +58,17 @@ pub fn listed_holders_are_one()
         ↔ AreHolders held namespace verb t xs }
 {}
 
-/// Where every binding is asked for, those that are listed with the holders decide who may use a
-/// verb on a target by which of them: the binding at a place grants it to a principal exactly if a
-/// holder is listed with it whose key is the principal's own or that of one of its groups (own).
+/// A list with every binding decides which binding lets whom use a verb on a target: the binding at
+/// a place grants the request to a principal exactly if the list has this binding with the
+/// principal's key, or with the key of one of its groups (own).
 pub fn listed_holders_decide()
     ensures { (held : Held) (scope : Scope) (verb : Text) (t : RequestedView)
         (xs : List HolderView) → AreListedHolders held scope true verb t xs
         → GrantsByHolders held scope verb t xs }
 {}
 
-/// With any object name a key holds a permission by exactly those subjects of bindings by which it
-/// holds it with some object name (own).
+/// With any object name, a key holds a permission by exactly the subjects of bindings by which it
+/// holds the permission with some object name (own).
 pub fn any_name_is_some_name()
     ensures { (held : Held) (scope : Scope) (verb : Text) (t : What) (key : Text) (i j : ℕ)
         → HoldsAt held scope verb (AnyName t) key i j

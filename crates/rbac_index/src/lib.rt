@@ -1,5 +1,6 @@
-//! An index over a policy: which grants allow a verb on a target, whether a principal may use it
-//! and why, and who may. The contracts here speak only of the policy; the index only makes it fast.
+//! An index over a policy. It answers which grants allow a verb on a target, whether a principal
+//! may use the verb and why, and who may. The contracts of this crate are about the policy alone;
+//! the index only makes the answers fast.
 #![tactic(auto)]
 
 mod alike;

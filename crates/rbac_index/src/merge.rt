@@ -1,4 +1,4 @@
-//! Ascending lists, merged.
+//! Merges ascending lists.
 
 ghost use Rattle.std.specs.Prelude.{ℕ, IfOk, Any, Contains, ◌↔◌, IsPermutation, IsSorted, map, All};
 ghost use Rattle.std.specs.Ordering.{nat_cmp};

@@ -34,7 +34,7 @@ impl GrantNos {
         }
     }
 
-    // These numbers, each once; the repeats among them are adjacent. Doesn't allocate.
+    // These numbers, each once. They are sorted, so repeats are adjacent. Doesn't allocate.
     pub(crate) fn from_sorted(mut items: Vec<u32>) -> Self
         requires { IsSorted nat_cmp items.items }
         ensures ascending { IsStrictlyIncreasing result }
@@ -52,7 +52,7 @@ impl GrantNos {
         self.items.as_slice()
     }
 
-    // Adds a number at the end that is greater than all others.
+    // Adds a number, which is greater than all others, at the end.
     pub(crate) fn push(&mut self, no: u32) -> Result<(), AllocError>
         requires { All (λ n. n < no) self.old }
         ensures { OnOk result (self.new ≡ self.old ++ no ∷ []) }

@@ -1,16 +1,17 @@
-//! The ranks of labels among themselves.
+//! The ranks of labels.
 
 ghost use Rattle.std.specs.Prelude.{◌≡◌, IfOk, IsSorted};
 ghost use Rattle.rbac_index.specs.HolderViews.{labels_seen, once_in};
-ghost use Rattle.rbac_index.specs.Ranks.{AreRanks, ArePlaced, IsRankAfter, placed_cmp, placed_label};
+ghost use Rattle.rbac_index.specs.Ranks.{AreRanks, ArePlaced, IsRankAfter, placed_cmp};
+ghost use Rattle.rbac_index.specs.Ranks.{placed_label};
 
 use crate::sightings::Sighting;
 use rbac_terms::Word;
 use std::alloc::{AllocError, Global};
 use std::cmp::Ordering;
 
-// A sighting's label, and its place. The label is what is listed once: a key, behind the place of
-// the binding in which it is listed once, or behind 0 if it is listed once in all of them.
+// A sighting's label, and its place. Each label is listed once. It is a key after a number: the
+// binding's place if each key is listed once for each binding, otherwise 0.
 #[derive(Clone, Copy)]
 pub(crate) struct Placed<'a> {
     pub(crate) once_in: usize,
@@ -18,7 +19,7 @@ pub(crate) struct Placed<'a> {
     pub(crate) place: usize,
 }
 
-// The rank of each sighting's label among the labels of all of them, from 0.
+// The rank of each sighting's label among the labels of all sightings, from 0.
 pub(crate) fn ranks_of(
     alloc: Global,
     every: bool,
@@ -41,7 +42,7 @@ pub(crate) fn ranks_of(
     Ok(ranks)
 }
 
-// The rank of a label that comes right after the one with this rank, or is the same.
+// The rank of `next`, which is the label with this rank or comes right after it.
 fn rank_after(rank: u32, last: Placed<'_>, next: Placed<'_>) -> Result<u32, AllocError>
     ensures { IfOk result
         (IsRankAfter rank (placed_label last.entry) (placed_label next.entry)) }
@@ -75,14 +76,14 @@ fn sorted_by_label<'a>(
     Ok(placed)
 }
 
-// The binding in which a key is listed once: with `every` this one, otherwise 0 for all of them.
+// The number before the key in a label: with `every` the binding's place, otherwise 0.
 fn once_in_binding(every: bool, binding_place: usize) -> usize
     ensures { result ≡ once_in every binding_place }
 {
     if every { binding_place } else { 0 }
 }
 
-// How the labels compare: by the bindings in which they are listed once, and then by their keys.
+// How the labels compare: by their numbers, and then by their keys.
 fn cmp_labels(a: Placed<'_>, b: Placed<'_>) -> Ordering
     ensures { result ≡ placed_cmp a.entry b.entry }
 {

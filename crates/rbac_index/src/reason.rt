@@ -17,11 +17,11 @@ use crate::requested::Requested;
 use rbac_model::{Policy, Why};
 use rbac_terms::{Binding, Word};
 
-/// Why a holder may use the verb on what is requested (own): the first grant of the holder's binding
-/// that allows it, and the first subject there with the holder's key. Where that binding is the
-/// first through which it holds the permission, it is the first grant of all that allows it to the
-/// key. A user that has the key may be allowed by an earlier grant, as a member of a group. `None`
-/// if no grant of that binding allows it. Doesn't allocate.
+/// Why a holder may use the verb on what is requested (own): the first grant of the holder's
+/// binding that allows the request, and the first subject of the binding with the holder's key. If
+/// the binding is the first through which the holder has the permission, no earlier grant allows
+/// the request to the key. But an earlier grant may allow it to the user with this key, as a member
+/// of a group. `None` if no grant of the binding allows the request. Doesn't allocate.
 pub fn why_held<'p>(
     policy: &'p Policy,
     holder: Holder<'_>,

@@ -11,13 +11,13 @@ use rbac_terms::{Rule, Target, Word, group_matches, resource_matches, rule_allow
 pub enum Requested<'a> {
     /// This target as it is.
     ThisTarget(&'a Target),
-    /// This target whatever its object name, which isn't looked at: a rule counts whatever its names
-    /// are. A URL has no name.
+    /// This target, whatever its object name: the names of the target and of rules are ignored. A
+    /// URL has no name.
     AnyName(&'a Target),
 }
 
 impl<'a> Requested<'a> {
-    // The target that is given.
+    // The given target.
     pub(crate) fn target(self) -> &'a Target
         ensures { result.now ≡ target_given (requested_of self.entry) }
     {
@@ -37,8 +37,8 @@ pub(crate) fn allows_requested(rule: &Rule, verb: &Word, requested: Requested<'_
     }
 }
 
-// Whether the rule allows the verb on the target with some object name. Each name of a rule is one
-// that it allows, and a rule without names allows all.
+// Whether the rule allows the verb on the target with some object name. A rule with names allows
+// each of them, and a rule without names allows every name.
 fn allows_any_name(rule: &Rule, verb: &Word, target: &Target) -> bool
     ensures { IsTrue result ↔ AllowsRequested rule.now verb.now (AnyName target.now) }
 {
@@ -48,8 +48,8 @@ fn allows_any_name(rule: &Rule, verb: &Word, target: &Target) -> bool
     verb_matches(rule, verb) && matches_stem(rule, target)
 }
 
-/// Whether words of the rule match the target's group and resource text. Doesn't
-/// allocate.
+/// Whether words of the rule match the target's API group and resource text (rbac/v1 evaluation
+/// helpers). Doesn't allocate.
 pub fn matches_stem(rule: &Rule, target: &Target) -> bool
     ensures { IsTrue result ↔ StemOk rule.now target.now }
 {

@@ -24,7 +24,7 @@ impl Drop for RuleLists {
     }
 }
 
-// Rules, and lists of them by their places.
+// Rules, and lists of their places.
 pub(crate) struct ListedRules<'p> {
     pub(crate) rules: Vec<Written<'p>>,
     pub(crate) lists: RuleLists,
@@ -121,7 +121,7 @@ fn under<'a>(lists: &'a BTreeMap<Word, Items<usize>>, word: &Word) -> &'a [usize
     }
 }
 
-// The word for every resource that has this text's subresource, if the text has one.
+// The word `*/SUBRESOURCE` for this text's subresource; `None` if the text has none.
 fn subresource_word(alloc: Global, text: &Word) -> Result<Option<Word>, AllocError>
     ensures { IfOk result (λ o. MatchOption o
         ((s : Text) → s ≢ [] → ¬ FollowsFirstSlash text.now s)

@@ -1,4 +1,4 @@
-//! Where the holders of a verb on what is requested are seen: the subjects that it is granted to.
+//! Sightings of holders: the subjects to which a verb on what is requested is granted.
 
 ghost use Rattle.std.specs.Prelude.{◌≡◌, ◌+◌, ◌<◌, All, IfOk, OnOk, length, slice_get, Some};
 ghost use Rattle.rbac_terms.specs.Text.{Text};
@@ -14,8 +14,8 @@ use rbac_model::{Policy, is_live_in};
 use rbac_terms::{Binding, Scope, Word, subject_key};
 use std::alloc::{AllocError, Global};
 
-// A holder's key, and a place where it was seen: a binding through which it holds the permission,
-// and a subject in it.
+// A holder's key, and where it was seen: a binding through which the key holds the permission, and
+// a subject of this binding.
 #[derive(Drop)]
 pub(crate) struct Sighting<'p> {
     pub(crate) key: Word,
@@ -24,8 +24,8 @@ pub(crate) struct Sighting<'p> {
     pub(crate) subject_place: usize,
 }
 
-// The sightings of all that holds a permission where it is asked about, given the numbers,
-// ascending, of the grants whose rule allows it.
+// The sightings of all keys that hold a permission in this scope, given the numbers, ascending, of
+// the grants whose rule allows the request.
 pub(crate) fn sightings_of<'p>(
     alloc: Global,
     policy: &'p Policy,
@@ -54,8 +54,8 @@ pub(crate) fn sightings_of<'p>(
     Ok(seen)
 }
 
-// Adds the sightings among the subjects of this binding, which is at `place`, if the binding is live
-// where it is asked about.
+// Adds the sightings among the subjects of this binding, which is at `place`, if the binding is
+// live in this scope.
 fn see_binding<'p>(
     alloc: Global,
     binding: &'p Binding,

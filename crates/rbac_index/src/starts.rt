@@ -1,5 +1,5 @@
-//! Where the grants by the rules of each row begin. A binding's grants by the rules of a role have
-//! consecutive numbers, in order of the rules, so the first number determines them all.
+//! Where the runs of grants by the rules of each row begin. A binding's grants by the rules of a
+//! role have consecutive numbers, in order of the rules, so the first number determines them all.
 
 ghost use Rattle.std.specs.Prelude.{◌≡◌, ◌<◌, ◌^◌, [], IfOk, length, map, replicate};
 ghost use Rattle.rbac_index.specs.Written.{written_rules};

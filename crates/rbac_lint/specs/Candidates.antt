@@ -1,5 +1,5 @@
--- Where to look for the rules that cover a rule: in the lists of the words that match one of its
--- own.
+-- Where to look for the rules that cover a rule: under the words that match one of the rule's
+-- words.
 use Rattle.std.specs.Prelude.{◌≡◌, ℕ, ◌≤◌, ◌⊎◌, ◌++◌, List, Option, Some, MatchOption, All, Any}
 use Rattle.std.specs.Prelude.{Contains, codes, slice_get}
 use Rattle.std.proofs.Common.{Bor}
@@ -14,7 +14,8 @@ use Rattle.rbac_lint.specs.RulesByWord.{PlaceLists, places_under, lists_in}
 use Rattle.rbac_lint.specs.RulesByWord.{IsAscending, AreAscending}
 use Rattle.rbac_lint.specs.declared.prefixes.Prefix.{Prefix}
 use Rattle.rbac_lint.specs.declared.rules_by_word.Field.{Field}
-use Rattle.rbac_lint.specs.declared.rules_by_word.Field.TheVariants.{Verbs, Groups, Resources, Names}
+use Rattle.rbac_lint.specs.declared.rules_by_word.Field.TheVariants.{Verbs, Groups}
+use Rattle.rbac_lint.specs.declared.rules_by_word.Field.TheVariants.{Resources, Names}
 use Rattle.rbac_lint.specs.declared.rules_by_word.Field.TheVariants.{Urls, Prefixes}
 use Rattle.rbac_lint.specs.declared.rules_by_word.RulesByWord.{RulesByWord}
 use Rattle.rbac_lint.specs.declared.candidates.Candidates.{Candidates}
@@ -28,7 +29,7 @@ Binds Names b = HasResource b
 Binds Urls b = HasUrl b
 Binds Prefixes b = ⊥
 
--- the word gives a target, if it is a resource word or a URL word
+-- the word can be asked for: a resource word is a resource text, and a URL word is a path
 abbrev pub IsAsked : Field → Text → Type 0
 IsAsked Resources w = IsResourceText w
 IsAsked Urls w = IsPath w
@@ -47,13 +48,15 @@ IsUnderMatch field l w n = (u : Text) × ResourceWordMatches u w
 abbrev pub StandsIn : List (Bor (List ℕ)) → ℕ → Type 0
 StandsIn lists n = Any (λ places. Contains places.now n) lists
 
+-- the place is among the candidates
 abbrev pub IsAmong : Candidates → ℕ → Type 0
 IsAmong c n = StandsIn c.lists.items n
 
+-- each list of the candidates ascends
 abbrev pub Ascend : Candidates → Type 0
 Ascend c = All (λ places. IsAscending places.now) c.lists.items
 
--- each place that is to be found is among the candidates
+-- each place that is listed under a word which matches this one is among the candidates
 abbrev pub FindsEach : Field → RulesByWord → Text → Candidates → Type 0
 FindsEach field l w c = Ascend c × ((n : ℕ) → IsUnderMatch field l w n → IsAmong c n)
 
@@ -70,7 +73,7 @@ pub record AddsPrefixes (prefixes : List Prefix) (text : Text) (old new : Candid
       → Contains f.places n → IsAmong new n
   pub ascending : All (λ f. IsAscending f.places) prefixes → Ascend old → Ascend new
 
--- u is the word for every resource that has w's subresource
+-- u is `*/` and the subresource of w
 abbrev pub IsOfEach : Text → Text → Type 0
 IsOfEach w u = (s : Text) × (u ≡ codes "*/" ++ s) × FollowsFirstSlash w s
 

@@ -3,6 +3,7 @@
 use Rattle.std.specs.Prelude.{codes}
 use Rattle.rbac_lint.specs.declared.escalation.EscalationWords.{EscalationWords}
 
+-- `bind` and `escalate`, the RBAC group, and its roles and cluster roles
 abbrev pub escalation_words : EscalationWords
 escalation_words = record {
   bind = codes "bind";

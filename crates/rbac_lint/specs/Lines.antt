@@ -12,11 +12,12 @@ pub record ObjectName : Type 0 where
   pub namespace : Option Text
   pub name : Text
 
--- `KIND/NAME`, or `KIND/NAMESPACE/NAME` (own)
+-- a namespace and a slash; nothing for a cluster-scoped object
 abbrev pub scope_text : Option Text → Text
 scope_text None = []
 scope_text (Some namespace) = namespace ++ codes "/"
 
+-- the text of an object: `KIND/NAME`, or `KIND/NAMESPACE/NAME` (own)
 abbrev pub object_text : ObjectName → Text
 object_text o = o.kind ++ codes "/" ++ scope_text o.namespace ++ o.name
 
@@ -61,9 +62,10 @@ AreShown P found = (xs : List Line) × AreExactly P xs × (found ≡ map shown x
 unfoldable pub AddsLines : (Line → Type 0) → List Finding → List Finding → Type 0
 AddsLines P old new = (xs : List Line) × AreExactly P xs × (new ≡ old ++ map shown xs)
 
--- a line of one of the first n elements, or of any element
+-- a line of one of the first n elements
 abbrev pub OfFirst : {X : Type 0} → (ℕ → X → Line → Type 0) → List X → ℕ → Line → Type 0
 OfFirst {X} P xs n x = (k : ℕ) × (y : X) × (k < n) × (slice_get xs k ≡ Some y) × P k y x
 
+-- a line of any element
 abbrev pub OfEach : {X : Type 0} → (ℕ → X → Line → Type 0) → List X → Line → Type 0
 OfEach {X} P xs x = (k : ℕ) × (y : X) × (slice_get xs k ≡ Some y) × P k y x

@@ -28,7 +28,7 @@ pub record AreGatherers (h : Held) (places : List ℕ) : Type 0 where
   pub complete : (k : ℕ) (c : ClusterRole) → slice_get h.cluster_roles k ≡ Some c
       → IsNamedByBinding h (InClusterRole c) → (¬ IsPlain c) → Contains places k
 
--- new has old's flags, and that of the role that the binding names, if it is there
+-- new has old's flags, and that of the role that the binding names, if the role exists
 pub record AreFlagsWith (h : Held) (b : Binding) (old new : List Bool) : Type 0 where
   pub len : length new ≡ length old
   pub exact : (k : ℕ) (s : Source) → slice_get (roles_in h) k ≡ Some s

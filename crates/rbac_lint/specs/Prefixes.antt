@@ -1,4 +1,5 @@
--- The prefixes of a role's URLs, in order; each leads to those that it begins with.
+-- The prefixes of a role's URLs, in order; each links to the longest other one that it begins with,
+-- if there is one.
 use Rattle.std.specs.Prelude.{◌≡◌, ℕ, ◌<◌, ◌≤◌, List, [], ◌∷◌, ◌++◌, Option, Some, None, IfSome}
 use Rattle.std.specs.Prelude.{map, slice_get, true}
 use Rattle.std.specs.BTreeMap.{BTreeMap, IsOrdered}
@@ -6,15 +7,16 @@ use Rattle.std.specs.Ordering.{is_le}
 use Rattle.rbac_terms.specs.Text.{Text, text_cmp, BeginsWith}
 use Rattle.rbac_lint.specs.declared.prefixes.Prefix.{Prefix}
 
--- a prefix's text with its places, and a prefix that is made of these
+-- a prefix's text with its places
 abbrev pub entry_of : Prefix → Text × List ℕ
 entry_of f = (f.text, f.places)
 
+-- the prefix with this text, these places and this link
 abbrev pub prefix : Text → List ℕ → Option ℕ → Prefix
 prefix text places shorter = record { text = text; places = places; shorter = shorter }
 
--- the text at place j is on the way from that place: the prefix there begins with the text, and
--- isn't before j
+-- the text at place j is on the way from place i: the prefix at i begins with the text, and isn't
+-- before j
 abbrev pub IsOnWay : List Prefix → Option ℕ → ℕ → Text → Type 0
 IsOnWay prefixes None j text = ⊥
 IsOnWay prefixes (Some i) j text = (f : Prefix) × (slice_get prefixes i ≡ Some f) × (j ≤ i)
@@ -25,12 +27,15 @@ abbrev pub LinksTo : List Prefix → ℕ → Text → Option ℕ → Type 0
 LinksTo prefixes count text way = (j : ℕ) (g : Prefix) → j < count → slice_get prefixes j ≡ Some g
     → BeginsWith text g.text → IsOnWay prefixes way j g.text
 
--- each prefix leads to all before it that it begins with
+-- the link of a prefix, if it has one, is to an earlier prefix, and the way from there has all
+-- earlier ones that the prefix begins with
 abbrev pub IsLinkedAt : List Prefix → ℕ → Prefix → Type 0
 IsLinkedAt prefixes i f = LinksTo prefixes i f.text f.shorter × IfSome f.shorter (λ p. p < i)
 
+-- each prefix is linked so
 abbrev pub AreLinkedPrefixes : List Prefix → Type 0
-AreLinkedPrefixes prefixes = (i : ℕ) (f : Prefix) → slice_get prefixes i ≡ Some f → IsLinkedAt prefixes i f
+AreLinkedPrefixes prefixes = (i : ℕ) (f : Prefix) → slice_get prefixes i ≡ Some f
+    → IsLinkedAt prefixes i f
 
 -- prefixes ascend, and are linked
 pub record ArePrefixes (prefixes : List Prefix) : Type 0 where

@@ -17,21 +17,25 @@ abbrev pub IsPlainRole : Source → Type 0
 IsPlainRole (InRole r) = Unit {0}
 IsPlainRole (InClusterRole r) = IsPlain r
 
--- objects by their names
+-- a Role by its namespace and name
 abbrev pub role_object : Text → Text → ObjectName
 role_object namespace name = record { kind = codes "Role"; namespace = Some namespace; name = name }
 
+-- a ClusterRole by its name
 abbrev pub cluster_role_object : Text → ObjectName
 cluster_role_object name = record { kind = codes "ClusterRole"; namespace = None; name = name }
 
+-- a role of either kind, as findings name it
 abbrev pub source_object : Source → ObjectName
 source_object (InRole r) = role_object r.namespace r.name
 source_object (InClusterRole r) = cluster_role_object r.name
 
+-- the kind of a binding, by its namespace
 abbrev pub binding_kind : Option Text → Text
 binding_kind None = codes "ClusterRoleBinding"
 binding_kind (Some namespace) = codes "RoleBinding"
 
+-- a binding, as findings name it
 abbrev pub binding_object : Binding → ObjectName
 binding_object b = record {
   kind = binding_kind b.namespace;

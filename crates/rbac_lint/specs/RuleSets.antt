@@ -18,13 +18,15 @@ rule_lists r = r.verbs ∷ r.groups ∷ r.resources ∷ r.resource_names ∷ r.u
 abbrev pub lists_cmp : List (List Text) → List (List Text) → Ordering
 lists_cmp = slice_cmp (slice_cmp text_cmp)
 
--- this order is total; being tied in it is an equivalence; and it orders tied rules alike
+-- this order is total
 pub lists_cmp_total : IsTotalOrder lists_cmp
 lists_cmp_total = lists_total (lists_total nat_list_cmp_total)
 
+-- being equal in this order is an equivalence
 pub lists_cmp_equiv : IsEquivalence (eq_by_cmp lists_cmp)
 lists_cmp_equiv = eq_by_cmp_equiv lists_cmp_total
 
+-- this order orders equal rules alike
 pub lists_cmp_partial : IsPartialOrder (eq_by_cmp lists_cmp) (as_partial_cmp lists_cmp)
 lists_cmp_partial =
     partial_order_from_agreeing_total lists_cmp lists_cmp_total (λ _ _. refl) (λ _ _. refl)

@@ -8,7 +8,8 @@ use Rattle.rbac_terms.specs.declared.matching.Rule.{Rule}
 use Rattle.rbac_lint.specs.declared.prefixes.Prefix.{Prefix}
 use Rattle.rbac_lint.specs.Prefixes.{AreEntriesOf, ArePrefixes}
 use Rattle.rbac_lint.specs.declared.rules_by_word.Field.{Field}
-use Rattle.rbac_lint.specs.declared.rules_by_word.Field.TheVariants.{Verbs, Groups, Resources, Names}
+use Rattle.rbac_lint.specs.declared.rules_by_word.Field.TheVariants.{Verbs, Groups}
+use Rattle.rbac_lint.specs.declared.rules_by_word.Field.TheVariants.{Resources, Names}
 use Rattle.rbac_lint.specs.declared.rules_by_word.Field.TheVariants.{Urls, Prefixes}
 use Rattle.rbac_lint.specs.declared.rules_by_word.RulesByWord.{RulesByWord}
 
@@ -20,9 +21,11 @@ PlaceLists = BTreeMap Text (List ℕ)
 abbrev pub places_under : PlaceLists → Text → List ℕ
 places_under m w = unwrap_or (get text_cmp m w) []
 
+-- places that ascend
 abbrev pub IsAscending : List ℕ → Type 0
 IsAscending places = AllPairs (λ i j. i ≤ j) places
 
+-- the places under each word ascend
 abbrev pub AreAscending : PlaceLists → Type 0
 AreAscending m = (w : Text) → IsAscending (places_under m w)
 
@@ -58,7 +61,7 @@ pub record TakesIn (old new : List ℕ) (place : ℕ) : Type 0 where
   pub only : (n : ℕ) → Contains new n → Contains old n ⊎ (n ≡ place)
   pub ascending : IsAscending old → ((n : ℕ) → Contains old n → n ≤ place) → IsAscending new
 
--- the list of that word takes in the place, and the other lists stay as they are
+-- the list of this word gets the place, and the other lists stay as they are
 abbrev pub ListsPlace : PlaceLists → PlaceLists → Text → ℕ → Type 0
 ListsPlace old new word place = TakesIn (places_under old word) (places_under new word) place
     × ((w : Text) → w ≢ word → places_under new w ≡ places_under old w)
@@ -102,7 +105,8 @@ pub record AreRulesByWord (rules : List Rule) (l : RulesByWord) : Type 0 where
   pub prefixes : AreListedAsPrefixes rules l.prefixes.items
   pub linked : ArePrefixes l.prefixes.items
 
--- the lists under the words of one of a rule's lists; prefixes are kept apart, beside their URLs
+-- the lists by the words of one of a rule's lists; for prefixes, those of URLs, since prefixes are
+-- kept apart
 abbrev pub lists_in : Field → RulesByWord → PlaceLists
 lists_in Verbs l = l.verbs
 lists_in Groups l = l.groups

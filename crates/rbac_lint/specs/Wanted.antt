@@ -7,8 +7,8 @@ use Rattle.rbac_lint.specs.declared.finding.Finding.{Finding}
 use Rattle.rbac_lint.specs.Lines.{ObjectName, Line, AreShown}
 use Rattle.rbac_lint.specs.Findings.{IsFinding}
 
--- the codes of the findings that are asked for, all of them if there is no list; and whether
--- findings about Kubernetes' own objects are left out
+-- the codes of the findings that are asked for, all codes without a list; and whether findings
+-- about Kubernetes' own objects are left out
 pub record WantedView : Type 0 where
   pub only : Option (List ℕ)
   pub skip_system : Bool
@@ -42,9 +42,10 @@ IsWanted w x = HasCode w x.code × IsKept w x.object
 abbrev pub AreWanted : WantedView → Held → List Replaced → List Finding → Type 0
 AreWanted w h rs found = AreShown (λ x. IsFinding h rs x × IsWanted w x) found
 
--- a line with the property that is about an object that isn't left out, or that is asked for
+-- a line with the property, about an object that isn't left out
 abbrev pub OfKept : WantedView → (Line → Type 0) → Line → Type 0
 OfKept w P x = P x × IsKept w x.object
 
+-- a line with the property that is asked for
 abbrev pub OfWanted : WantedView → (Line → Type 0) → Line → Type 0
 OfWanted w P x = P x × IsWanted w x

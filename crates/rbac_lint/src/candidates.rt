@@ -1,6 +1,6 @@
 //! Where to look for the rules that cover a rule. A rule that covers another allows each of the
-//! other's words, taken as a text, so it is listed under one of the few words that match that word.
-//! The word with the fewest places is used.
+//! other's words, taken as a text. So for each of these words, it is listed under one of the few
+//! words that match it. The word with the fewest places is used.
 
 ghost use Rattle.std.specs.Prelude.{◌≡◌, ◌++◌, ◌∷◌, [], ◌⊎◌, List, Some, IfOk, IfSome, OnOk};
 ghost use Rattle.std.specs.Prelude.{IsTrue};
@@ -18,7 +18,7 @@ use rbac_terms::{Rule, Word, cut_at_first, is_path, is_resource_text};
 use std::alloc::{AllocError, Global};
 use std::collections::BTreeMap;
 
-// The places of a word's rules, in ascending lists, and how many they hold together.
+// Lists of the places of rules, each ascending, and how many places these lists have together.
 #[derive(Drop)]
 pub(crate) struct Candidates<'a> {
     pub(crate) lists: Vec<&'a [usize]>,
@@ -56,7 +56,7 @@ impl<'a> Candidates<'a> {
     }
 }
 
-// The fewest places that hold every rule that covers this one; `None` for a rule that allows
+// The fewest places that include every rule covering this one; `None` for a rule that allows
 // nothing.
 pub(crate) fn fewest_for<'a>(
     alloc: Global,
@@ -81,7 +81,7 @@ pub(crate) fn fewest_for<'a>(
     Ok(None)
 }
 
-// The fewest places, out of these and those for each word in one of the rule's lists.
+// The fewest places: `best`, or those for a word in one of the rule's lists.
 fn fewest_in<'a>(
     alloc: Global,
     by_word: &'a RulesByWord,
@@ -143,7 +143,8 @@ fn candidates_for<'a>(
     }
 }
 
-// The places under the words that match this resource text; other texts are matched by fewer words.
+// The places under the words that match this text, taken as a resource text: the text itself, `*`
+// and `*/SUBRESOURCE`. A verb, a group or a name is matched by fewer words.
 fn matching<'a>(
     alloc: Global,
     lists: &'a BTreeMap<Word, Places>,
@@ -159,7 +160,7 @@ fn matching<'a>(
     Ok(candidates)
 }
 
-// Adds the places under the word for every resource that has this one's subresource.
+// Adds the places under `*/SUBRESOURCE`, if the word has a subresource.
 fn add_of_each<'a>(
     alloc: Global,
     candidates: &mut Candidates<'a>,
@@ -194,7 +195,8 @@ fn starting<'a>(
     Ok(candidates)
 }
 
-// Adds the places of the prefixes that a text begins with, and few others: the shortest come last.
+// Adds the places of the prefixes that a text begins with, and of few others. The shortest come
+// last.
 fn add_prefixes<'a>(
     candidates: &mut Candidates<'a>,
     prefixes: &'a [Prefix],

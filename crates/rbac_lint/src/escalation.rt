@@ -25,7 +25,8 @@ const BIND: &[u8] = b"bind";
 
 const ESCALATE: &[u8] = b"escalate";
 
-// The verbs that let a subject grant more than it has, and what they are used on.
+// The verbs that let a subject grant more than it has, and the API group and resources they are
+// for.
 struct EscalationWords {
     bind: Word,
     escalate: Word,

@@ -23,8 +23,8 @@ pub struct Finding {
     pub object: Word,
     /// The place of a rule or a subject in the object, from 0.
     pub place: Option<usize>,
-    /// More about the finding: the role that is named, the number of the covering rule from 1, the
-    /// verb, the account's name, or how many documents were replaced; otherwise empty.
+    /// More about the finding: the role that the binding names, the number of the covering rule
+    /// from 1, the verb, the account's name, or how many documents were replaced; otherwise empty.
     pub other: Word,
 }
 

@@ -8,14 +8,14 @@ ghost use Rattle.rbac_lint.specs.Wanted.{WantedView, AreWanted};
 ghost use Rattle.rbac_manifest.specs.declared.replacement.Replaced.{Replaced};
 ghost use Rattle.rbac_model.specs.Policies.{Held};
 
-/// What lint finds in given objects is one list (own).
+/// Objects have one list of findings: any two such lists are equal (own).
 pub fn findings_are_one_list()
     ensures { (held : Held) (replaced : List Replaced) (found others : List FindingView)
         → AreFindings held replaced found → AreFindings held replaced others → found ≡ others }
 {}
 
-/// The findings in given objects that are asked for are one list, and all of the findings if there
-/// is no list of codes and Kubernetes' own objects aren't left out (own).
+/// Objects have one list of the findings that are asked for. It has all findings if no codes are
+/// listed and Kubernetes' own objects aren't left out (own).
 pub fn wanted_findings_are_one_list()
     ensures one { (wanted : WantedView) (held : Held) (replaced : List Replaced)
         (found others : List FindingView)

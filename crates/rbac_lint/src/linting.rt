@@ -17,11 +17,11 @@ use rbac_manifest::{Export, Loaded};
 use std::alloc::{AllocError, Global};
 
 /// What deserves a second look in the loaded inputs (own): bindings whose role is missing, roles
-/// that no binding leads to, rules that another rule of their role covers, rules that let a subject
-/// grant more than it has, accounts without a namespace, aggregated roles whose written rules
-/// aren't those that they gather, and objects that were given more than once. The findings are
-/// ordered by code, as listed here, then by the object's kind, namespace and name, then by place,
-/// then by the last field.
+/// that no binding refers to, not even by aggregation, rules that another rule of their role
+/// covers, rules that let a subject grant more than it has, accounts without a namespace,
+/// aggregated roles whose written rules aren't those that they gather, and objects that were given
+/// more than once. The findings are ordered by code, as listed here, then by the object's kind,
+/// namespace and name, then by place, then by the last field.
 ///
 /// Fails only if it runs out of memory.
 pub fn lint(alloc: Global, loaded: &Loaded) -> Result<Findings, AllocError>
@@ -34,8 +34,8 @@ pub fn lint(alloc: Global, loaded: &Loaded) -> Result<Findings, AllocError>
     lint_export(alloc, loaded.export(), all)
 }
 
-/// The wanted ones among the findings of [`lint`]. The lists of a universe aren't needed. A code
-/// that isn't wanted isn't looked for. Fails only if it runs out of memory.
+/// The findings of [`lint`] that are wanted. It derives no lists of a universe, and doesn't look
+/// for codes that aren't wanted. Fails only if it runs out of memory.
 pub fn lint_export(
     alloc: Global,
     export: &Export,
@@ -48,7 +48,7 @@ pub fn lint_export(
     Ok(found)
 }
 
-// Adds everything that deserves a second look and is asked for, in order.
+// Adds all findings that are asked for, in order.
 fn find_all(
     alloc: Global,
     found: &mut Findings,

@@ -1,7 +1,7 @@
 //! The prefixes of a role's URLs: what comes before the stars at the end of a URL. They are in
-//! order, and each leads to the longest other one that it begins with. So the way from the last one
-//! that isn't after a text leads to all prefixes that the text begins with, and is no longer than
-//! the text if that one is the text itself.
+//! order, and each links to the longest other entry that is a prefix of it. From the last entry
+//! that isn't after a text, the links lead to all prefixes of the text. If this entry is the text
+//! itself, there are at most as many links as the text has bytes.
 
 ghost use Rattle.std.specs.Prelude.{◌≡◌, ◌<◌, ℕ, length, slice_get, Some, true, ◌↔◌, IfOk, IfSome};
 ghost use Rattle.std.specs.Prelude.{OnOk, IsTrue};
@@ -21,7 +21,7 @@ use std::collections::BTreeMap;
 pub(crate) struct Prefix {
     text: Word,
     pub(crate) places: Places,
-    // The place of the longest other one that this one begins with.
+    // The place of the longest other entry that is a prefix of this one.
     pub(crate) shorter: Option<usize>,
 }
 
@@ -57,7 +57,7 @@ fn push_prefix(prefixes: &mut Vec<Prefix>, text: Word, places: Places) -> Result
     Ok(())
 }
 
-// The first prefix, on the way from this one, that the text begins with.
+// The first entry that is a prefix of the text, along the links from this one on.
 fn longest_from(prefixes: &[Prefix], from: Option<usize>, text: &[u8]) -> Option<usize>
     requires linked { AreLinkedPrefixes prefixes.now }
     requires leads { LinksTo prefixes.now (length prefixes.now) text.now from }
@@ -82,7 +82,7 @@ fn begins_with(text: &[u8], prefix: &[u8]) -> bool
     text.starts_with(prefix)
 }
 
-// The last prefix that isn't after the text.
+// The last entry that isn't after the text.
 pub(crate) fn last_up_to(prefixes: &[Prefix], text: &[u8]) -> Option<usize>
     requires { ArePrefixes prefixes.now }
     ensures leads { LinksTo prefixes.now (length prefixes.now) text.now result }

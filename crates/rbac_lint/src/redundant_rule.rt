@@ -24,7 +24,7 @@ use rbac_model::{Objects, SourceRole};
 use rbac_terms::Rule;
 use std::alloc::{AllocError, Global};
 
-// A role's rules are listed by their words if there are at least this many.
+// A role's rules are listed by their words if the role has at least this many.
 const MANY: usize = 16;
 
 // Adds the findings that are asked for, for all plain roles.
@@ -77,7 +77,8 @@ fn find_in_rules(
     find_in_ordered(alloc, found, role, ordered.as_slice(), by_word.as_ref())
 }
 
-// Adds the findings for these rules of a role, given them by their words if they are many.
+// Adds the findings for these rules of a role. `by_word` has the rules by their words, if they are
+// many.
 fn find_in_ordered(
     alloc: Global,
     found: &mut Findings,
@@ -96,7 +97,7 @@ fn find_in_ordered(
     Ok(())
 }
 
-// These rules by their words; `None` if there are few, which are compared sooner than listed.
+// These rules by their words; `None` if they are few, since comparing few takes less than listing.
 fn by_word_if_many(alloc: Global, rules: &[Rule]) -> Result<Option<RulesByWord>, AllocError>
     ensures { IfOk result (λ l. ForSome l (AreRulesByWord rules.now)) }
 {
@@ -106,7 +107,7 @@ fn by_word_if_many(alloc: Global, rules: &[Rule]) -> Result<Option<RulesByWord>,
     Ok(Some(listed_by_word(alloc, rules)?))
 }
 
-// Adds the finding for the rule at this place, if there is one.
+// Adds the finding for the rule at this place, if the rule is redundant.
 fn find_at(
     alloc: Global,
     found: &mut Findings,

@@ -44,7 +44,7 @@ impl Places {
         self.items.as_slice()
     }
 
-    // Adds a place at the end, unless it is there already.
+    // Adds a place at the end, unless it is the last one already.
     fn take_in(&mut self, place: usize) -> Result<(), AllocError>
         ensures { OnOk result (TakesIn self.old self.new place) }
     {
@@ -62,8 +62,8 @@ impl Places {
     }
 }
 
-// The lists under whose words rules are listed: those of a rule and, for the URLs that end in
-// stars, what comes before the stars.
+// The lists by whose words rules are listed: the lists of a rule and, for URLs that end in stars,
+// the prefixes before the stars.
 #[derive(Clone, Copy, Debug)]
 pub(crate) enum Field {
     Verbs,
@@ -99,7 +99,7 @@ impl Drop for RulesByWord {
     }
 }
 
-// The word that stands for all words.
+// The word that matches every text.
 pub(crate) fn star_word(alloc: Global) -> Result<Word, AllocError>
     ensures { IfOk result (λ word. word ≡ codes "*") }
 {
@@ -181,7 +181,8 @@ fn list_all(
     Ok(())
 }
 
-// Lists a place for one word. A word that has no prefix is put among the prefixes, with no place.
+// Lists a place for one word. A URL that doesn't end in a star is listed among the prefixes without
+// a place.
 fn list_for(
     alloc: Global,
     lists: &mut BTreeMap<Word, Places>,
@@ -261,7 +262,8 @@ pub(crate) fn under<'a>(lists: &'a BTreeMap<Word, Places>, word: &Word) -> &'a [
 }
 
 impl RulesByWord {
-    // The places under the words of one list; prefixes are kept apart, beside their URLs.
+    // The places under the words of one list; for prefixes, those of URLs, since prefixes are kept
+    // apart.
     pub(crate) fn lists(&self, field: Field) -> &BTreeMap<Word, Places>
         ensures { result.now ≡ lists_in field self.now }
     {

@@ -120,7 +120,7 @@ fn gathered_rules<'p>(
     Ok(gathered)
 }
 
-// Adds the rules of the cluster role at the second place, if the one at the first gathers them.
+// Adds the rules of the cluster role at `at`, if the role at `place` gathers them.
 fn push_source<'p>(
     gathered: &mut Vec<&'p Rule>,
     policy: &Policy,

@@ -1,4 +1,4 @@
-//! Roles that no binding leads to.
+//! Roles that no binding names, and that no cluster role named by a binding reaches.
 
 ghost use Rattle.std.specs.Prelude.{◌≡◌, ◌<◌, ◌↔◌, Some, IsSome, IfOk, OnOk, IsTrue, slice_get};
 ghost use Rattle.std.specs.Prelude.{get_or, false, true, length};
@@ -92,7 +92,7 @@ fn is_used(policy: &Policy, named: &[bool], gatherers: &[usize], place: usize) -
     named[place] || is_reached(policy, gatherers, place)
 }
 
-// Whether a cluster role that a binding names reaches the one at this place, if there is one.
+// Whether a cluster role that a binding names reaches the cluster role at this place, if it is one.
 fn is_reached(policy: &Policy, gatherers: &[usize], place: usize) -> bool
     requires { AreGatherers policy.now.held gatherers.now }
     ensures { IsTrue result ↔ IsReachedByNamedAt policy.now.held place }
@@ -149,7 +149,7 @@ fn named_roles(alloc: Global, objects: &Objects) -> Result<Vec<bool>, AllocError
     Ok(named)
 }
 
-// Flags the role that a binding names, if it is there.
+// Flags the role that a binding names, if the role exists.
 fn flag_named(objects: &Objects, binding: &Binding, named: &mut Vec<bool>)
     requires { length named.old.items ≡ length (roles_in objects.now) }
     ensures { AreFlagsWith objects.now binding.now named.old.items named.new.items }
@@ -159,7 +159,7 @@ fn flag_named(objects: &Objects, binding: &Binding, named: &mut Vec<bool>)
     }
 }
 
-// The place, among the roles of both kinds, of the role at this place of one kind.
+// The place in the list of all roles, of a role with this place in the list of its kind.
 fn place_among(objects: &Objects, place: RolePlace) -> usize
     requires { IsSome (source_at objects.now place) }
     ensures within { result < length (roles_in objects.now) }

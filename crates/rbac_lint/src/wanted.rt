@@ -28,7 +28,7 @@ const VIEW: &[u8] = b"view";
 /// Which findings are asked for (own).
 #[derive(Drop)]
 pub struct Wanted<'a> {
-    /// The codes of the findings, from 1 to 7, in any order; all of them if there is no list.
+    /// The codes of the findings, from 1 to 7, in any order; all codes without a list.
     pub only: Option<&'a [u8]>,
     /// Whether findings about Kubernetes' own objects are left out.
     pub skip_system: bool,

@@ -32,8 +32,8 @@ namespaces_of h names accounts =
 
 -- ---- rules, and their verbs
 
--- the rules that are written in roles and in plain cluster roles; those in an aggregated role
--- aren't looked at
+-- the rules that are written in roles and in plain cluster roles; those written in an aggregated
+-- role are ignored
 abbrev pub source_rules : Held → List Rule
 source_rules h =
     flat_map (λ r. r.rules) h.roles
@@ -73,8 +73,8 @@ abbrev pub rule_resources : Rule → List ListedResource
 rule_resources r =
     flat_map (group_resources r.resources) (filter (λ group. not (has_star group)) r.groups)
 
--- the catalogue's resources, each with its own flag; if no API resource list was given, those of
--- rules
+-- the catalogue's resources, each namespaced or not as listed; without an API resource list, the
+-- resources of rules
 abbrev pub resources_of : Held → CatalogueView → List ListedResource
 resources_of h c =
     if c.is_given then map (λ e. as_listed e.group e.name e.namespaced) c.entries

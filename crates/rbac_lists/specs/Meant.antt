@@ -10,12 +10,11 @@ use Rattle.rbac_lists.specs.declared.given_lists.GivenLists.{GivenLists}
 use Rattle.rbac_lists.specs.Derived.{principals_of, namespaces_of, verbs_of, resources_of, names_of}
 use Rattle.rbac_lists.specs.Derived.{urls_of}
 
--- the list that the last document that has one gives
+-- the list of the last document that has one
 abbrev pub last_given : {X : Type 0} → (GivenLists → Option X) → List GivenLists → Option X
 last_given field documents = last_or None (filter_map field documents)
 
--- a list is the last one given, even if it is empty; if no document has it, it is the derived one
--- (own)
+-- the last list given, even if it is empty; if no document has the list, the derived one (own)
 abbrev pub given_or : {X : Type 0} → X → (GivenLists → Option X) → List GivenLists → X
 given_or derived field documents = unwrap_or (last_given field documents) derived
 

@@ -1,4 +1,4 @@
-//! The lists that are derived from what is kept.
+//! The lists that are derived from the objects that are kept.
 
 ghost use Rattle.std.specs.Prelude.{◌≡◌, ◌++◌, [], All, IfOk, OnOk, map};
 ghost use Rattle.std.specs.List.{flat_map, filter_map};
@@ -16,9 +16,8 @@ use rbac_terms::{Binding, Role, Word, Words};
 use rbac_universe::{ListedResource, ListedResources, Principals};
 use std::alloc::{AllocError, Global};
 
-/// The principals that bindings name, and the users of service accounts, as they come: one is listed
-/// as often as it is named (own). None has groups that it was given. Fails only if it runs out of
-/// memory.
+/// The principals that bindings name, and then the users of service accounts. A principal is listed
+/// as often as it is named (own). No user has given groups. Fails only if it runs out of memory.
 pub fn principals_of(
     alloc: Global,
     objects: &Objects,
@@ -35,7 +34,7 @@ pub fn principals_of(
     Ok(Principals::from_vec(principals))
 }
 
-// The empty namespace, the namespaces of objects and of service accounts, and these names.
+// The empty namespace, the namespaces of objects and of service accounts, and the given names.
 pub(crate) fn namespaces_of(
     alloc: Global,
     objects: &Objects,

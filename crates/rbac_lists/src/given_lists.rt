@@ -18,18 +18,18 @@ impl Drop for Account {
     }
 }
 
-/// The lists that a Universe document gives (own). A list that it doesn't give is left to the
-/// documents before it, or is derived if none of them gives it.
+/// The lists that a Universe document gives (own). A list that it leaves out is taken from the
+/// documents before it, or derived if none of them gives it.
 pub struct GivenLists {
     /// Users, with the groups given to them, and members of groups.
     pub principals: Option<Principals>,
-    /// Namespaces; the empty text stands for a request without one.
+    /// Namespaces; the empty text means a request without a namespace.
     pub namespaces: Option<Words>,
     /// Verbs.
     pub verbs: Option<Words>,
-    /// Resources, each asked for with each name.
+    /// Resources; each is asked about with each object name.
     pub resources: Option<ListedResources>,
-    /// Object names; the empty text stands for a request without one.
+    /// Object names; the empty text means a request without a name.
     pub names: Option<Words>,
     /// Paths of URLs.
     pub urls: Option<Words>,

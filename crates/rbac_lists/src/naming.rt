@@ -1,4 +1,4 @@
-//! What the written rules name.
+//! What rules name as they are written: verbs, resources, object names and URLs.
 
 ghost use Rattle.std.specs.Prelude.{◌≡◌, ◌++◌, List, OnOk, IfOk, filter, is_none};
 ghost use Rattle.std.specs.List.{flat_map};

@@ -1,4 +1,4 @@
-//! Copies of texts, and what a text can be.
+//! Copies of texts, and which texts are a verb, a resource or a path.
 
 ghost use Rattle.std.specs.Prelude.{◌≡◌, ◌++◌, OnOk, IfOk};
 ghost use Rattle.rbac_lists.specs.Derived.{is_verb, has_star, ends_in_star, is_plain_resource};
@@ -7,8 +7,8 @@ ghost use Rattle.rbac_lists.specs.Derived.{is_path_word};
 use rbac_terms::{Word, is_path};
 use std::alloc::{AllocError, Global};
 
-// A copy of the text. This contract is about its bytes alone; that of a derived clone is about its
-// parts.
+// A copy of the text. This contract is about the bytes alone; that of a derived clone is about the
+// parts of a word.
 pub(crate) fn copy_of(alloc: Global, word: &Word) -> Result<Word, AllocError>
     ensures { IfOk result (λ copy. copy ≡ word.now) }
 {

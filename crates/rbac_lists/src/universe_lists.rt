@@ -16,7 +16,7 @@ use rbac_terms::{Word, Words};
 use rbac_universe::{ListedResources, Principals, UniverseLists};
 use std::alloc::{AllocError, Global};
 
-// The lists that some documents give, the last one of each.
+// Of each list, the last one that the documents give.
 #[derive(Drop)]
 struct LastLists<'a> {
     principals: Option<&'a Principals>,
@@ -27,10 +27,10 @@ struct LastLists<'a> {
     urls: Option<&'a Words>,
 }
 
-/// The lists that a universe is made of (own). Each is the one that the last Universe document with
-/// that list gives, even if that one is empty. If no document has the list, it is derived from the
-/// objects that are kept, the catalogue, the names of Namespace objects and the ServiceAccount
-/// objects. Fails only if it runs out of memory.
+/// The lists that a universe is made of (own). Each is taken from the last Universe document that
+/// has this list, even if it is empty. If no document has the list, it is derived from the objects
+/// that are kept, the catalogue, the names of Namespace objects and the ServiceAccount objects.
+/// Fails only if it runs out of memory.
 pub fn lists_of(
     alloc: Global,
     objects: &Objects,
@@ -88,7 +88,7 @@ fn lists_over(
     })
 }
 
-// The last one of each list that these documents give.
+// Of each list, the last one that these documents give.
 fn last_lists(documents: &[GivenLists]) -> LastLists<'_>
     ensures principals { option_copied result.principals
         ≡ last_given (λ d. d.principals) documents.now }
@@ -114,8 +114,7 @@ fn last_lists(documents: &[GivenLists]) -> LastLists<'_>
     last
 }
 
-// The lists of this document, and for each list that it doesn't have, that of the documents before
-// it.
+// The lists of this document; a list that it leaves out is taken from the earlier documents.
 fn over<'a>(document: &'a GivenLists, earlier: LastLists<'a>) -> LastLists<'a>
     ensures principals { option_copied result.principals
         ≡ option_or document.now.principals (option_copied earlier.entry.principals) }

@@ -41,8 +41,8 @@ unfoldable pub resource_name_at : Data → Option Text
 resource_name_at d =
     name_at d >>= λ name. if is_path name then None else Some name
 
--- the entry that an item gives, unless it is bad; its group is that of the list, and it isn't
--- namespaced unless it says so
+-- the entry that an item gives, unless it is bad; its group is that of the list, and a missing
+-- `namespaced` is false
 unfoldable pub entry_at : Text → Data → Option Entry
 entry_at group d =
     resource_name_at d >>= λ name.

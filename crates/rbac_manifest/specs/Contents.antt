@@ -1,4 +1,4 @@
--- What documents give, sorted by what it is used for.
+-- What documents give, grouped by its use.
 use Rattle.std.specs.Prelude.{◌||◌, Bool, true, false, List, [], ◌++◌, Option, Some, None}
 use Rattle.std.specs.List.{filter_map, flat_map, list_any}
 use Rattle.rbac_terms.specs.Text.{Text}

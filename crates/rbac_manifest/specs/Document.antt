@@ -46,7 +46,8 @@ first_of [] = None
 first_of (None ∷ rows) = first_of rows
 first_of (Some cause ∷ rows) = Some cause
 
--- M2: it isn't an object, or its kind is missing and none is implied, or its kind isn't a text
+-- M2: the document isn't an object, or its kind is missing and none is implied, or its kind isn't a
+-- text
 unfoldable pub not_an_object : Implied → Data → Option Cause
 not_an_object implied d = when (not (is_object d) || is_none (kind_at implied d)) NotAnObject
 
@@ -74,7 +75,7 @@ bad_role_ref in_namespace d =
 unfoldable pub bad_subjects : Data → Option Cause
 bad_subjects d = option_map BadSubject (first_bad is_bad_subject (list_field (codes "subjects") d))
 
--- M8: the aggregation rule is there and bad
+-- M8: the aggregation rule is given and bad
 abbrev pub bad_selector : Data → Option Cause
 bad_selector d = when (given_and is_bad_aggregation (field (codes "aggregationRule") d)) BadSelector
 

@@ -15,13 +15,13 @@ use Rattle.rbac_manifest.specs.declared.kind.Implied.{Implied}
 use Rattle.rbac_manifest.specs.declared.kind.Implied.TheVariants as lists
 use Rattle.rbac_manifest.specs.declared.fault.Refusal.{Refusal}
 
--- a document is a list of sound kind and version, and implies this for its items
+-- a document is a list with a valid kind and version, and implies this about its items
 abbrev pub IsListOf : Implied → Data → Type 0
 IsListOf implied d = (bad_header lists.Nothing d ≡ None)
     × (kind_of lists.Nothing d ≡ kinds.List implied)
 
--- a text is an object with items beside these others, and this is what the items give if this is
--- implied for them
+-- a text is an object with items and these other members, and `given` is what the items give if the
+-- list implies this about them
 abbrev pub IsReadAs : List ℕ → Implied → Result (Vec Content Global) Refusal → Members → Type 0
 IsReadAs text implied given others =
     (ds : Items) × (read text ≡ Some (with_items others ds))

@@ -1,4 +1,4 @@
--- What a JSON value says in its fields. A field whose value is null counts as missing (own).
+-- The fields of a JSON value. A field whose value is null counts as missing (own).
 use Rattle.std.specs.Prelude.{ℕ, ◌==◌, ◌||◌, Bool, true, false, length, List, [], ◌∷◌, map, Option}
 use Rattle.std.specs.Prelude.{Some, None, option_map, option_and_then, unwrap_or, is_none, is_some}
 use Rattle.std.specs.Prelude.{if◌then◌else◌, codes}
@@ -7,7 +7,7 @@ use Rattle.serde_json.specs.Data.{Data, null, boolean, number, string, array, ob
 use Rattle.serde_json.specs.Data.{no_items, item}
 use Rattle.serde_json.specs.Find.{get, as_bool, as_str, as_array, as_object}
 
--- what follows from a value, if there is one
+-- what `f` makes of a value, if the value isn't missing
 infixr 5 ◌>>=◌
 abbrev pub ◌>>=◌ : {A B : Type 0} → Option A → (A → Option B) → Option B
 None >>= f = None
@@ -22,7 +22,7 @@ present (string s) = Some (string s)
 present (array ds) = Some (array ds)
 present (object ms) = Some (object ms)
 
--- the field of this name, if it is there
+-- the value of the field with this name, unless it is missing or null
 unfoldable pub field : List ℕ → Data → Option Data
 field name d = option_and_then present (get name d)
 
@@ -48,11 +48,11 @@ list_field name d = list_or_empty (field name d)
 abbrev pub is_text : Data → Bool
 is_text d = is_some (as_str d)
 
--- the text that a value is
+-- the text of a value; empty if it isn't a text
 abbrev pub text_in : Data → List ℕ
 text_in d = unwrap_or (as_str d) []
 
--- the texts that the items are, if each is one
+-- the texts of the items, if each item is a text
 unfoldable pub all_texts : List Data → Option (List (List ℕ))
 all_texts ds = if list_all is_text ds then Some (map text_in ds) else None
 
@@ -85,12 +85,12 @@ non_empty t = if is_empty t then None else Some t
 unfoldable pub name_at : Data → Option (List ℕ)
 name_at d = option_and_then non_empty (text_at (codes "name") d)
 
--- a yes or no; if it is missing, `missing` says which
+-- a boolean, or `missing` if it is missing
 abbrev pub flag_or : Bool → Option Data → Option Bool
 flag_or missing None = Some missing
 flag_or missing (Some d) = as_bool d
 
--- the yes or no in a field
+-- the boolean in a field
 unfoldable pub flag_at : Bool → List ℕ → Data → Option Bool
 flag_at missing name d = flag_or missing (field name d)
 
@@ -107,12 +107,12 @@ abbrev pub missing_or : (Data → Bool) → Option Data → Bool
 missing_or is_bad None = true
 missing_or is_bad (Some d) = is_bad d
 
--- a value is there, and it is bad
+-- a value is given, and it is bad
 abbrev pub given_and : (Data → Bool) → Option Data → Bool
 given_and is_bad None = false
 given_and is_bad (Some d) = is_bad d
 
--- a field is there but isn't a text
+-- a field is given but isn't a text
 abbrev pub is_no_text : List ℕ → Data → Bool
 is_no_text name d = is_none (text_at name d)
 
@@ -120,7 +120,7 @@ is_no_text name d = is_none (text_at name d)
 abbrev pub text : List ℕ → Data → List ℕ
 text name d = unwrap_or (text_at name d) []
 
--- a field is there but isn't a list of texts
+-- a field is given but isn't a list of texts
 abbrev pub is_no_texts : List ℕ → Data → Bool
 is_no_texts name d = is_none (texts_field name d)
 
@@ -128,6 +128,6 @@ is_no_texts name d = is_none (texts_field name d)
 abbrev pub texts : List ℕ → Data → List (List ℕ)
 texts name d = unwrap_or (texts_field name d) []
 
--- a field is there but isn't a yes or no
+-- a field is given but isn't a boolean
 abbrev pub is_no_flag : List ℕ → Data → Bool
 is_no_flag name d = given_and (λ flag. is_none (as_bool flag)) (field name d)

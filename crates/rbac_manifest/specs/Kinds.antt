@@ -20,8 +20,8 @@ rbac_v1 = codes "rbac.authorization.k8s.io/v1"
 abbrev pub rbac_v1beta1 : List ℕ
 rbac_v1beta1 = codes "rbac.authorization.k8s.io/v1beta1"
 
--- how a version of the group is read: each of these two as the one that the table names, any other
--- not at all
+-- how a version of the RBAC group is read: each of these two as the one that the table names, and
+-- no other
 abbrev pub rbac_version : List ℕ → Option (List ℕ)
 rbac_version v = if bytes_eq v rbac_v1 || bytes_eq v rbac_v1beta1 then Some rbac_v1 else None
 

@@ -44,7 +44,7 @@ labels_at name d = labels_or_empty (field name d)
 
 -- ---- selectors
 
--- the operator of this name, if these are as many values as it takes
+-- the operator of this name, if it takes that many values
 unfoldable pub operator_named : List ℕ → List (List ℕ) → Option SelectOp
 operator_named name values =
     if bytes_eq name (codes "In") && not (is_empty values) then Some OneOf

@@ -47,13 +47,13 @@ abbrev pub item_fault : Trouble → ℕ → ItemFault
 item_fault Shape place = Bad place
 item_fault Memory place = WithoutMemory
 
--- the trouble that an item's fault is, whatever its place
+-- the trouble of an item's fault, without its place
 abbrev pub trouble_with : ItemFault → Trouble
 trouble_with (Bad place) = Shape
 trouble_with WithoutMemory = Memory
 
--- All items were read, and none is bad; or the first bad one is named; nothing is said if it ran
--- out of memory.
+-- All items were read, and none is bad; or the first bad one is named. If memory ran out, nothing
+-- is stated.
 abbrev pub ReadsAll : {X : Type 0} → Result (Vec X Global) ItemFault → (Data → Option X) → List Data
     → Type 0
 ReadsAll (Ok xs) read ds = (all_at read ds ≡ Some xs.items) × (bad_place read 0 ds ≡ None)

@@ -147,8 +147,8 @@ all_contents inputs = flat_map contents_of_file inputs
 
 -- ---- what is loaded
 
--- what contracts see of what was loaded: a policy, a catalogue, the principals that it names, the lists
--- of a universe, and which objects were replaced
+-- what contracts see of what was loaded: the policy, the catalogue, the principals that are named,
+-- the lists of a universe, and the objects that were replaced
 pub record LoadedView : Type 0 where
   pub policy : PolicyView
   pub catalogue : CatalogueView
@@ -157,9 +157,9 @@ pub record LoadedView : Type 0 where
   pub replaced : List Replaced
 
 -- every document is accepted; of each kind, namespace and name the last object is kept (own); the
--- grants follow from what is kept, and there are no more than there may be; the catalogue is that
--- of all API resource lists; the principals are those that bindings and ServiceAccount objects name;
--- the lists are those that all of this means; and the objects listed as replaced are those that several
+-- grants follow from the kept objects, and are at most `most_grants`; the catalogue is that of all
+-- API resource lists; the principals are those that bindings and ServiceAccount objects name; the
+-- lists follow from all of this; and the objects listed as replaced are those that several
 -- documents give
 pub record IsLoaded (inputs : List (List ℕ)) (l : LoadedView) : Type 0 where
   pub accepted : document_fault inputs ≡ None
@@ -175,7 +175,7 @@ pub record IsLoaded (inputs : List (List ℕ)) (l : LoadedView) : Type 0 where
       (names_given (objects_in (all_contents inputs)) (namespaces_in (all_contents inputs))
       (accounts_in (all_contents inputs))) l.replaced
 
--- all inputs together give more grants than there may be; this fault has no place
+-- M11: all inputs together give more than `most_grants`; this fault has no place
 abbrev pub too_many : LoadFault
 too_many = record { at = None; cause = TooMany }
 
@@ -184,8 +184,8 @@ abbrev pub HasTooManyGrants : List Object → LoadFault → Type 0
 HasTooManyGrants objects f = (f ≡ too_many)
     × ((held : Held) × AreKept objects held × HasTooMany held)
 
--- the fault is that of the first document that has one, or, if none has, that what is kept gives
--- too many grants
+-- the fault is that of the first document that has one, or, if none has one, that the kept objects
+-- give too many grants
 abbrev pub HasFault : List (List ℕ) → LoadFault → Type 0
 HasFault inputs f =
     (document_fault inputs ≡ Some f)

@@ -6,13 +6,13 @@ use Rattle.rbac_manifest.specs.Fields.{field, text_at, name_at, is_object}
 use Rattle.rbac_manifest.specs.Label.{labels_at}
 use Rattle.rbac_manifest.specs.declared.metadata.Metadata.{Metadata}
 
--- metadata must have a name that isn't empty; a namespace that is there must be a text, and labels
--- must map texts to texts
+-- metadata must have a name that isn't empty; a namespace, if it is given, must be a text, and
+-- labels must map texts to texts
 abbrev pub is_bad_metadata : Data → Bool
 is_bad_metadata m = not (is_object m) || is_none (labels_at (codes "labels") m)
     || is_none (name_at m) || is_none (text_at (codes "namespace") m)
 
--- what metadata says; a missing namespace is empty
+-- the parts of metadata; a missing namespace is empty
 abbrev pub metadata_in : Data → Metadata
 metadata_in m = record {
   name = unwrap_or (name_at m) [];
@@ -20,7 +20,7 @@ metadata_in m = record {
   labels = unwrap_or (labels_at (codes "labels") m) [];
 }
 
--- what metadata says, unless it is bad
+-- the parts of metadata, unless it is bad
 unfoldable pub metadata_from : Data → Option Metadata
 metadata_from m = if is_bad_metadata m then None else Some (metadata_in m)
 

@@ -41,10 +41,11 @@ object_name (ARole r) = role_name r
 object_name (AClusterRole r) = cluster_role_name r
 object_name (ABinding b) = binding_name b
 
--- the name of a Namespace, and of a ServiceAccount
+-- the name of a Namespace
 abbrev pub namespace_name : Text → List Text
 namespace_name name = codes "Namespace" ∷ [] ∷ name ∷ []
 
+-- the name of a ServiceAccount
 abbrev pub account_name : Account → List Text
 account_name a = codes "ServiceAccount" ∷ a.namespace ∷ a.name ∷ []
 

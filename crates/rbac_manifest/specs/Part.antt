@@ -1,4 +1,4 @@
--- What is read of a document.
+-- Which members of a document are read.
 use Rattle.std.specs.Prelude.{◌||◌, Bool, List, [], ◌∷◌, codes, Option, Some, None, if◌then◌else◌}
 use Rattle.std.specs.List.{list_any}
 use Rattle.std.specs.Str.{bytes_eq}
@@ -12,24 +12,25 @@ use Rattle.rbac_manifest.specs.declared.part.Part.TheVariants.{Document, Metadat
 abbrev pub is_among : List Text → Text → Bool
 is_among names name = list_any (bytes_eq name) names
 
--- the members of roles and bindings that say something, beside the metadata
+-- the members of roles and bindings that are read, besides the metadata
 abbrev pub object_names : List Text
 object_names =
     codes "kind" ∷ codes "apiVersion" ∷ codes "roleRef" ∷ codes "subjects" ∷ codes "rules"
     ∷ codes "aggregationRule" ∷ []
 
--- the members of API resource lists and of Universe documents that say something, beside the kind
+-- the members of API resource lists and of Universe documents that are read, besides those above
 abbrev pub list_names : List Text
 list_names =
     codes "groupVersion" ∷ codes "resources" ∷ codes "principals" ∷ codes "namespaces"
     ∷ codes "verbs" ∷ codes "names" ∷ codes "urls" ∷ []
 
--- the members of the metadata that say something
+-- the members of the metadata that are read
 abbrev pub metadata_names : List Text
 metadata_names = codes "name" ∷ codes "namespace" ∷ codes "labels" ∷ []
 
--- what is read of a member of this name: a document's metadata in part, its other members that say
--- something as a whole, and so of metadata; any other member of the two isn't read (own)
+-- what is read of a member of this name: of a document, the metadata in part, and the members
+-- listed above as a whole; of metadata, the members listed above as a whole; and no other member of
+-- the two (own)
 unfoldable pub read_under : Part → Text → Option Part
 read_under Document name =
     if bytes_eq name (codes "metadata") then Some Metadata
@@ -38,6 +39,6 @@ read_under Document name =
 read_under Metadata name = if is_among metadata_names name then Some Whole else None
 read_under Whole name = Some Whole
 
--- a document less the members that aren't read
+-- a document without the members that aren't read
 abbrev pub read_of : Data → Data
 read_of d = lean read_under Document d

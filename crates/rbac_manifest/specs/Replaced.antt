@@ -4,6 +4,7 @@ use Rattle.rbac_terms.specs.Text.{Text}
 use Rattle.rbac_model.specs.Lists.{IsCount, IsAscendingBy}
 use Rattle.rbac_manifest.specs.declared.replacement.Replaced.{Replaced}
 
+-- the name of a replaced object: its kind, namespace and name
 abbrev pub replaced_name : Replaced → List Text
 replaced_name r = r.kind ∷ r.namespace ∷ r.name ∷ []
 
@@ -14,8 +15,8 @@ pub record AreReplaced (names : List (List Text)) (rs : List Replaced) : Type 0 
   pub exact : (r : Replaced) → Contains rs r
       ↔ ((0 < r.earlier) × IsCount (λ n. n ≡ replaced_name r) names (r.earlier + 1))
 
--- what documents with the same name give: nothing, or the object of that name with how many
--- documents come before the last
+-- what the documents with one name give: the object of that name, with how many documents come
+-- before the last; nothing if there is only one document
 abbrev pub replaced_by : List (List Text) → List Replaced
 replaced_by ((kind ∷ namespace ∷ name ∷ []) ∷ other ∷ others) = record {
   kind = kind;

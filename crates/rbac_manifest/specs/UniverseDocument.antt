@@ -41,7 +41,7 @@ unfoldable pub member_at : Data → Option Who
 member_at name = option_map AsMember (name_in name)
 
 -- a user, perhaps with groups, or a member of one group: exactly one of `user` and `group` is
--- there, and no `groups` if `group` is
+-- given, and `groups` only with `user`
 abbrev pub principal_by : (user group groups : Option Data) → Data → Option Who
 principal_by (Some user) None groups d = user_at user d
 principal_by None (Some group) None d = member_at group
@@ -56,7 +56,7 @@ principal_at d =
 abbrev pub is_bad_name : Data → Bool
 is_bad_name d = is_empty (text_in d)
 
--- a field is there
+-- a field is given
 abbrev pub has : Text → Data → Bool
 has name d = is_some (field name d)
 
@@ -74,8 +74,8 @@ is_bad_principal p = any_of (
 
 -- ---- resources
 
--- the resource that an item gives, unless it is bad; its text must be there, a missing group is the
--- core group, and it is namespaced unless it says otherwise
+-- the resource that an item gives, unless it is bad; its text is required, a missing group is the
+-- core group, and a missing `namespaced` is true
 unfoldable pub resource_at : Data → Option ListedResource
 resource_at d =
     field (codes "resource") d >>= λ resource.
@@ -98,7 +98,7 @@ is_bad_resource r = any_of (
 abbrev pub items_field : {X : Type 0} → (Data → Option X) → Text → Data → Option (List X)
 items_field read name d = list_field name d >>= λ items. all_at read items
 
--- what a field gives if it is there, even if it is an empty list; a missing one isn't given
+-- what a field gives, even as an empty list; a missing field gives no list
 abbrev pub where_given : {X : Type 0} → (Text → Data → Option X) → Text → Data → Option (Option X)
 where_given read name d =
     if is_none (field name d) then Some None else option_map Some (read name d)

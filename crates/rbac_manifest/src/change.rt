@@ -1,4 +1,4 @@
-//! What a change makes of objects.
+//! The objects after a change.
 
 ghost use Rattle.std.specs.Prelude.{◌≡◌, ◌++◌, ◌∷◌, [], not, map, IfOk, OnOk};
 ghost use Rattle.std.specs.List.{filter};
@@ -11,9 +11,9 @@ use crate::names::{ObjectName, is_among, push_objects, sort_names};
 use rbac_model::Object;
 use std::alloc::{AllocError, Global};
 
-/// The objects after a change: copies of `objects`, in order, less each whose kind, namespace and
-/// name an object of `without` has, followed by `over`. In a policy made of them, an object of
-/// `over` replaces earlier ones of its name (own).
+/// The objects after a change: copies of `objects`, in order, but for those with the kind,
+/// namespace and name of an object of `without`, and then `over`. In a policy of these objects, an
+/// object of `over` replaces earlier ones of its name (own).
 ///
 /// # Errors
 ///

@@ -5,7 +5,7 @@ use rbac_lists::{Account, GivenLists};
 use rbac_model::Object;
 use rbac_terms::Word;
 
-// What a document gives, if its kind is one that is read.
+// What a document gives, if its kind is read.
 #[derive(Drop)]
 pub(crate) enum Content {
     // A Role, a ClusterRole, a RoleBinding or a ClusterRoleBinding.

@@ -9,7 +9,7 @@ use rbac_terms::{
 };
 use std::alloc::{AllocError, Global};
 
-// What can be copied.
+// Values that can be copied.
 pub(crate) trait Copyable: Sized {
     // A copy, equal to the original. Fails only if it runs out of memory.
     fn copy(&self, alloc: Global) -> Result<Self, AllocError>
@@ -61,7 +61,8 @@ impl Copyable for Rule {
     }
 }
 
-// Makes `copy` equal to a rule. What can fail is here, where no early return has anything to drop.
+// Makes `copy` equal to a rule. All that can fail is in here, where an early return has nothing to
+// drop.
 fn copy_rule(rule: &Rule, copy: &mut Rule) -> Result<(), AllocError>
     ensures { OnOk result (copy.new ≡ rule.now) }
 {

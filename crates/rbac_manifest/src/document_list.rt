@@ -1,6 +1,6 @@
-//! A list of documents, read in one pass over its text. The kind of a list can stand behind its
-//! items, so the kind that they imply is guessed, and looked at once it is read. If the guess was
-//! wrong, the text is read again.
+//! A list of documents, read in one pass over its text. The kind of a list can come after its
+//! items. So the reader guesses what the list implies about its items, and checks the guess when it
+//! reads the kind. After a wrong guess, it reads the text again.
 
 ghost use Rattle.std.specs.Prelude.{◌≡◌, List, ℕ, OnOk, IfOk, IfSome, MatchOption, Err, None, Some};
 ghost use Rattle.json.specs.Token.{Token as SpecToken};
@@ -35,7 +35,7 @@ struct ReadList {
     implied: Implied,
     // What the items then give, or why the first one with a fault is refused.
     given: Result<Vec<Content>, Refusal>,
-    // The members beside the items.
+    // The other members of the list.
     others: Map<String, Value>,
 }
 
@@ -51,8 +51,8 @@ fn pass_rest(alloc: Global, unread: &mut Unread<'_>) -> Result<(), ReadFault>
     Ok(())
 }
 
-// What the items of a list give. The refusal of the first one with a fault is kept while the items
-// after it are read.
+// What the items of a list give. The refusal of the first item with a fault is kept while the later
+// items are read.
 fn items_of(
     alloc: Global,
     unread: &mut Unread<'_>,
@@ -77,7 +77,7 @@ fn items_of(
     Err(ReadFault::NoMemory)
 }
 
-// What a list implies about its items, as far as the members before them say.
+// What a list implies about its items, judged by the members before them.
 fn guess_of(before: &Map<String, Value>) -> Implied {
     let (Some(version), Some(kind)) = (before.get("apiVersion"), before.get("kind")) else {
         return Implied::Nothing;
@@ -91,7 +91,7 @@ fn guess_of(before: &Map<String, Value>) -> Implied {
     }
 }
 
-// What a list implies about its items: what is told, or otherwise the guess.
+// What a list implies about its items: `told`, if it is given, otherwise the guess.
 fn implied_by(told: Option<Implied>, before: &Map<String, Value>) -> Implied
     ensures { (implied : Implied) → told ≡ Some implied → result ≡ implied }
 {
@@ -101,7 +101,7 @@ fn implied_by(told: Option<Implied>, before: &Map<String, Value>) -> Implied
     }
 }
 
-// The list of which the members before its items were read; None if it has `items` again.
+// Reads on, after the members before the items; `None` if the list has `items` again.
 fn read_on(
     alloc: Global,
     front: ListFront<'_>,
@@ -130,8 +130,8 @@ fn read_on(
     }))
 }
 
-// The list that a text is, if it is an object with one list under `items`. If what the list implies
-// about its items isn't told, it is guessed.
+// Reads a text that is an object with one list under `items`; `None` for any other text. Guesses
+// what the list implies about its items, unless `told` is given.
 fn list_of(alloc: Global, text: &str, told: Option<Implied>) -> Result<Option<ReadList>, ReadFault>
     ensures list { IfOk result (λ o. MatchOption o (¬ IsList text.now) (λ list.
         IsReadAs text.now list.implied list.given (members_view list.others.entries))) }
@@ -158,8 +158,8 @@ fn contents_as(alloc: Global, text: &str, implied: Implied) -> Result<Vec<Conten
     }
 }
 
-// What a text gives, which was read as this list. If it isn't a list of documents, it gives what
-// its members beside the items say.
+// What a text gives that was read as this list. If its kind isn't that of a list of documents, the
+// text gives what its members other than the items give.
 fn list_contents(alloc: Global, text: &str, list: ReadList) -> Result<Vec<Content>, Refusal>
     requires { IsReadAs text.now list.implied list.given (members_view list.others.entries) }
     ensures { Yields result (refusal_of (read text.now)) (contents_of_value (read text.now)) }
@@ -177,7 +177,7 @@ fn list_contents(alloc: Global, text: &str, list: ReadList) -> Result<Vec<Conten
     }
 }
 
-// What a text gives. What isn't an object with one list under `items` is read as a whole.
+// What a text gives. A text that isn't an object with one list under `items` is read as a whole.
 pub(crate) fn text_contents(alloc: Global, text: &str) -> Result<Vec<Content>, Refusal>
     ensures { Yields result (refusal_of (read text.now)) (contents_of_value (read text.now)) }
 {

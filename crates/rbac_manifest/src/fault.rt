@@ -15,7 +15,7 @@ use std::fmt;
 // Why a value wasn't read.
 #[derive(Clone, Copy, Debug, Drop)]
 pub(crate) enum Trouble {
-    // The value doesn't have the shape that the format says.
+    // The value doesn't have the shape that the format requires.
     Shape,
     Memory,
 }

@@ -287,7 +287,7 @@ fn meaning_in(rows: &[Row], version: &str, kind: &str) -> Kind
     Kind::Other
 }
 
-// The kind of a document, if its kind and version texts are sound. Doesn't allocate.
+// The kind of a document, or M2 or M3 for its kind and version. Doesn't allocate.
 #[tactic(auto, unfolding(crate::specs::Document::bad_header, crate::specs::Document::not_an_object, crate::specs::Document::bad_version, crate::specs::Kinds::kind_of))]
 pub(crate) fn kind_of(document: &Value, implied: Implied) -> Result<Kind, Cause>
     ensures loads { Loads result (bad_header implied (view document.now))
@@ -306,7 +306,7 @@ pub(crate) fn kind_of(document: &Value, implied: Implied) -> Result<Kind, Cause>
     Ok(kind_named(version, kind))
 }
 
-// What a document implies about its items, if it is a list with a sound kind and version.
+// What a document implies about its items, if it is a list with a valid kind and version.
 pub(crate) fn list_kind(document: &Value) -> Option<Implied>
     ensures { MatchOption result
         ((implied : Implied) → IsListOf implied (view document.now) → ⊥)

@@ -24,8 +24,8 @@ pub fn loaded_inputs_have_no_fault()
     grants_are_one_list();
 }
 
-/// Inputs determine what they are loaded as, so everyone who loads the same inputs answers over the
-/// same policy, catalogue and lists (own).
+/// Inputs determine what is loaded: whoever loads the same inputs gets the same policy, catalogue
+/// and lists (own).
 pub fn loaded_inputs_are_one()
     ensures { (inputs : List (List ℕ)) (l others : LoadedView) → IsLoaded inputs l
         → IsLoaded inputs others → l ≡ others }
@@ -34,15 +34,13 @@ pub fn loaded_inputs_are_one()
     grants_are_one_list();
 }
 
-/// Inputs have at most one fault, so everyone who refuses the same inputs names the same fault
-/// (own).
+/// Inputs have at most one fault: whoever refuses the same inputs reports the same fault (own).
 pub fn load_faults_are_one()
     ensures { (inputs : List (List ℕ)) (f g : LoadFault) → HasFault inputs f → HasFault inputs g
         → f ≡ g }
 {}
 
-/// Objects determine their policy, so everyone who has the same objects answers over the same one
-/// (own).
+/// Objects determine their policy: whoever has the same objects gets the same policy (own).
 pub fn resolved_policies_are_one()
     ensures { (objects : List Object) (p q : PolicyView) → IsResolved objects p
         → IsResolved objects q → p ≡ q }
@@ -61,8 +59,8 @@ pub fn resolved_policies_have_no_fault()
     grants_are_one_list();
 }
 
-/// The members of a document that aren't read say nothing: without them the document has the same
-/// fault, and gives the same (own).
+/// The members of a document that aren't read change nothing: without them the document has the
+/// same fault, and gives the same (own).
 #[tactic(auto, using(crate::proofs::Unread::same_fault, crate::proofs::Unread::same_stands))]
 pub fn unread_members_say_nothing()
     ensures fault { (implied : Implied) (d : Data) → fault implied (read_of d) ≡ fault implied d }

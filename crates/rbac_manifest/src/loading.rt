@@ -88,8 +88,8 @@ impl Export {
     }
 
     /// The principals that bindings name, and the users of ServiceAccount objects, as often as they
-    /// are named, whatever a Universe document lists (own). They are derived anew on each call. Fails
-    /// only if it runs out of memory.
+    /// are named, whatever a Universe document lists (own). Each call derives them anew. Fails only
+    /// if it runs out of memory.
     pub fn principals(&self, alloc: Global) -> Result<Principals, AllocError>
         ensures principals { IfOk result (λ list. list ≡ self.now.principals) }
         ensures given { IfOk result (All (λ who. given_of who ≡ [])) }
@@ -108,7 +108,7 @@ impl Export {
 
     /// The lists that a universe is made of (own): each as given by the last Universe document that
     /// has it, otherwise as derived from the objects that are kept, the catalogue, and Namespace
-    /// and ServiceAccount objects. They are derived anew on each call.
+    /// and ServiceAccount objects. Each call derives them anew.
     ///
     /// # Errors
     ///
@@ -216,11 +216,11 @@ fn unresolved(fault: ResolveFault) -> LoadFault
 }
 
 /// Reads inputs as [`load`](crate::load) does, and returns the objects that they give, in order,
-/// with those that later ones replace.
+/// including those that later ones replace.
 ///
 /// # Errors
 ///
-/// Those of `load` but M11, since no policy is made.
+/// The errors of `load` but M11, since no policy is made.
 #[tactic(auto, unfolding(crate::specs::Contents::sorted_contents))]
 pub fn load_objects(alloc: Global, inputs: &[Input]) -> Result<Vec<Object>, LoadFault>
     ensures ok { IfOk result (λ v. (document_fault inputs.now ≡ None)

@@ -157,7 +157,7 @@ pub(crate) fn push_objects<'a>(
     Ok(())
 }
 
-// Puts names in order, so that equal ones are adjacent and one is found by halving.
+// Puts names in order, so that equal ones are adjacent and a binary search can find one.
 pub(crate) fn sort_names(names: &mut Vec<ObjectName>) -> Result<(), AllocError>
     ensures sorted { OnOk result (IsSorted name_cmp names.new.items) }
     ensures same { OnOk result (IsPermutation names.old.items names.new.items) }

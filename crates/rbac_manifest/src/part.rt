@@ -1,4 +1,4 @@
-//! What of a document is read.
+//! Which members of a document are read.
 
 ghost use Rattle.std.specs.Prelude.{◌≡◌, map};
 ghost use Rattle.rbac_manifest.specs.Part.{is_among, object_names, list_names, metadata_names};
@@ -17,7 +17,7 @@ pub(crate) enum Part {
     Whole,
 }
 
-// The members of roles and bindings that say something, beside the metadata.
+// The members of roles and bindings that are read, besides the metadata.
 const OBJECT_NAMES: &[&str] = &[
     "kind",
     "apiVersion",
@@ -27,7 +27,7 @@ const OBJECT_NAMES: &[&str] = &[
     "aggregationRule",
 ];
 
-// The members of API resource lists and Universe documents that say something, beside the kind.
+// The members of API resource lists and Universe documents that are read, besides those above.
 const LIST_NAMES: &[&str] = &[
     "groupVersion",
     "resources",
@@ -53,14 +53,14 @@ fn is_among(names: &[&str], name: &str) -> bool
     false
 }
 
-// Whether a member of a role or a binding says something.
+// Whether a member of a role or a binding is read.
 fn is_of_object(name: &str) -> bool
     ensures { result ≡ is_among object_names name.now }
 {
     is_among(OBJECT_NAMES, name)
 }
 
-// Whether a member of an API resource list or a Universe document says something.
+// Whether a member of an API resource list or a Universe document is read.
 fn is_of_list(name: &str) -> bool
     ensures { result ≡ is_among list_names name.now }
 {

@@ -9,8 +9,8 @@ use Rattle.rbac_terms.specs.declared.granting.Binding.{Binding}
 use Rattle.rbac_terms.specs.declared.granting.Subject.{Subject}
 use Rattle.rbac_model.specs.Policies.{Held, Live, Brings}
 
--- the key holds the permission by that subject of that binding: the key is the subject's, and the
--- binding is live and brings a rule that allows it
+-- the key holds the permission by that subject of that binding: the subject has the key, the
+-- binding is live, and the binding brings a rule that allows the verb on the target
 abbrev pub HoldsBy : Held → Text → Text → What → Binding → Subject → Text → Type 0
 HoldsBy h namespace verb t b s key = Live b.namespace namespace t × Brings h b verb t
     × IsSubjectKey s b.namespace key
@@ -23,13 +23,13 @@ pub record HolderView : Type 0 where
   pub binding_place : ℕ
   pub subject_place : ℕ
 
--- the key holds the permission by the subject at the second place in the binding at the first
+-- the key holds the permission by the subject at place j of the binding at place i
 abbrev pub IsHolderAt : Held → Text → Text → What → Text → ℕ → ℕ → Type 0
 IsHolderAt h namespace verb t key i j =
     (b : Binding) × (s : Subject) × (slice_get h.bindings i ≡ Some b)
     × (slice_get b.subjects j ≡ Some s) × HoldsBy h namespace verb t b s key
 
--- the first pair of places comes before the second
+-- the pair of places i and j comes before the pair k and l
 abbrev pub IsBefore : ℕ → ℕ → ℕ → ℕ → Type 0
 IsBefore i j k l = (i < k) ⊎ ((i ≡ k) × (j < l))
 
@@ -52,7 +52,7 @@ pub record AreHolders (h : Held) (namespace verb : Text) (t : What)
 abbrev pub HasKey : Binding → Text → Type 0
 HasKey b key = Any (λ s. IsSubjectKey s b.namespace key) b.subjects
 
--- the key is that of who asks, or of one of its groups
+-- the key of who asks, or of one of the groups of who asks
 abbrev pub IsKeyFor : Who → Text → Type 0
 IsKeyFor who key = (key ≡ who_key who)
     ⊎ ((group : Text) × IsInGroup who group × (key ≡ who_key (AsMember group)))

@@ -1,4 +1,5 @@
-use Rattle.std.specs.Prelude.{◌≡◌, ◌↔◌, ◌⊎◌, ℕ, ◌/◌, ◌%◌, List, [], ◌∷◌, ◌++◌, Option, Some, None, Any}
+use Rattle.std.specs.Prelude.{◌≡◌, ◌↔◌, ◌⊎◌, ℕ, ◌/◌, ◌%◌, List, [], ◌∷◌, ◌++◌, Option, Some, None}
+use Rattle.std.specs.Prelude.{Any}
 use Rattle.std.specs.Prelude.{slice_get}
 use Rattle.std.specs.Int.{bit_at}
 use Rattle.std.specs.List.Sorted.{IsSorted}
@@ -36,7 +37,7 @@ pub record LabelEntry : Type 0 where
 abbrev pub Says : LabelEntry → List Text → ℕ → Type 0
 Says e label k = (e.label ≡ label) × (k / 64 ≡ e.place / 64) × (bit_at e.bits (k % 64) ≡ 1)
 
--- entries in order of labels, which say of each label exactly which roles have it
+-- the entries are in order of labels, and say of each label exactly which roles have it
 pub record AreLabels (roles : List ClusterRole) (entries : List LabelEntry) : Type 0 where
   pub sorted : IsSorted (by_name (λ e. e.label)) entries
   pub exact : (key : Text) (value : Option Text) (k : ℕ)
@@ -58,7 +59,8 @@ abbrev pub SayTheSame : List LabelEntry → List LabelEntry → Type 0
 SayTheSame xs ys = (label : List Text) (k : ℕ)
     → Any (λ e. Says e label k) ys ↔ Any (λ e. Says e label k) xs
 
--- new says what old and one more entry say, and stands in order wherever these two would
+-- new says what old and one more entry say, and is in order wherever old followed by this entry
+-- would be
 pub record IsWithEntry (old : List LabelEntry) (entry : LabelEntry)
     (new : List LabelEntry) : Type 0 where
   pub says : (label : List Text) (k : ℕ)

@@ -26,16 +26,16 @@ by_name name x y = slice_cmp text_cmp (name x) (name y)
 abbrev pub IsAscendingBy : {X : Type 0} → (X → List Text) → List X → Type 0
 IsAscendingBy name xs = AllPairs (λ x y. by_name name x y ≡ Less) xs
 
--- new holds x in place of anything that had its name, and otherwise what old holds
+-- new contains x, and the elements of old whose name isn't x's
 abbrev pub IsPut : {X : Type 0} → (X → List Text) → List X → List X → X → Type 0
 IsPut {X} name old new x = (y : X) → Contains new y
     ↔ ((y ≡ x) ⊎ (Contains old y × (name y ≢ name x)))
 
--- x's name is at place i
+-- the element at place i has x's name
 abbrev pub IsAtName : {X : Type 0} → (X → List Text) → List X → X → ℕ → Type 0
 IsAtName name xs x i = (i < length xs) × HoldsAt (λ y. by_name name y x ≡ Equal) xs i
 
--- x's name isn't in the list, and would go to place i
+-- no element has x's name, and x would go to place i
 abbrev pub IsGapForName : {X : Type 0} → (X → List Text) → List X → X → ℕ → Type 0
 IsGapForName name xs x i = (i ≤ length xs) × AllWithin (λ y. by_name name y x ≡ Less) xs 0 i
     × AllWithin (λ y. by_name name y x ≡ Greater) xs i (length xs)

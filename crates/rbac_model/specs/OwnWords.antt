@@ -1,23 +1,23 @@
--- The words of a rule, taken as texts that are asked for.
+-- The words of a rule, taken as texts that a request asks for.
 use Rattle.std.specs.Prelude.{◌≡◌, ◌≢◌, ℕ, ◌+◌, ◌⊎◌, [], ◌∷◌, ◌++◌, replicate, codes, All, Any}
 use Rattle.rbac_terms.specs.Text.{Text, star}
 use Rattle.rbac_terms.specs.Targets.{IsPath}
 use Rattle.rbac_terms.specs.Matching.{EndsInStar, UrlWordMatches}
 use Rattle.rbac_terms.specs.declared.matching.Rule.{Rule}
 
--- what comes before the star of a URL sample: the word without its stars, or `/` if nothing is left
+-- the part of a URL sample before its star: the word without its stars, or `/` if nothing is left
 abbrev pub sample_prefix : Text → Text
 sample_prefix [] = codes "/"
 sample_prefix (c ∷ q) = c ∷ q
 
--- a URL word taken as a text: itself, or with only one star if it ends in stars; `/*` if it is
--- nothing but stars (own)
+-- x is the sample of a URL word: the word itself, or, if it ends in stars, the word with only one
+-- star; `/*` if the word is nothing but stars (own)
 abbrev pub IsUrlSample : Text → Text → Type 0
 IsUrlSample w x = ((¬ EndsInStar w) × (x ≡ w))
     ⊎ ((q : Text) × (k : ℕ) × (w ≡ q ++ replicate (k + 1) star) × (¬ EndsInStar q)
     × (x ≡ sample_prefix q ++ star ∷ []))
 
--- a URL word has a sample that is a path: without one it matches no path
+-- the sample of a URL word is a path; otherwise the word matches no path
 unfoldable pub GivesPath : Text → Type 0
 GivesPath w = (x : Text) × IsUrlSample w x × IsPath x
 

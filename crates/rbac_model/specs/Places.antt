@@ -16,16 +16,17 @@ use Rattle.rbac_model.specs.declared.places.GrantPlace.{GrantPlace}
 use Rattle.rbac_model.specs.declared.places.RolePlace.{RolePlace}
 use Rattle.rbac_model.specs.declared.places.RolePlace.TheVariants.{RoleAt, ClusterRoleAt}
 
--- the role at a place, and the rules that are written in it
+-- the role at a place
 abbrev pub source_at : Held → RolePlace → Option Source
 source_at h (RoleAt at) = option_map (λ r. InRole r) (slice_get h.roles at)
 source_at h (ClusterRoleAt at) = option_map (λ r. InClusterRole r) (slice_get h.cluster_roles at)
 
+-- the rules that are written in a role
 abbrev pub rules_of : Source → List Rule
 rules_of (InRole r) = r.rules
 rules_of (InClusterRole r) = r.rules
 
--- a reference in that namespace, or in none, refers to the role at this place
+-- the role reference of a binding in that namespace, or in none, refers to the role at this place
 abbrev pub IsRefAt : Held → Option Text → RoleRef → RolePlace → Type 0
 IsRefAt h namespace role place = (source : Source) × (source_at h place ≡ Some source)
     × IsRefTo h namespace role source
@@ -40,24 +41,24 @@ places_of binding role (suc n) =
 abbrev pub granted_by : Binding → List SourcedRule → List GrantView
 granted_by b rules = map (λ rule. record { binding = b; rule = rule }) rules
 
--- the places of the grants by these rules were added to the old places of grants
+-- new is old, followed by the places of the binding's grants by these rules
 pub record IsAdded (h : Held) (b : Binding) (old new : List GrantPlace)
     (rules : List SourcedRule) : Type 0 where
   pub grants : grants_at h new ≡ grants_at h old ++ granted_by b rules
   pub held : All (λ g. IsSome (grant_at h g)) new
 
--- the cluster roles at these places, and the rules that are written in them
+-- the cluster roles at these places
 abbrev pub roles_at : Held → List ℕ → List ClusterRole
 roles_at h ps = filter_map (slice_get h.cluster_roles) ps
 
--- these are the places of the roles whose rules the cluster role has: of itself, or of those that
--- it gathers from
+-- the places of the roles whose written rules a cluster role has: its own place if it is plain,
+-- otherwise the places of the roles that it gathers from
 abbrev pub AreSourcesOf : Held → ClusterRole → List ℕ → Type 0
 AreSourcesOf h r ps =
     All (λ p. p < length h.cluster_roles) ps
     × ((IsPlain r × (roles_at h ps ≡ r ∷ [])) ⊎ ((¬ IsPlain r) × AreGathered h r (roles_at h ps)))
 
--- the places of the roles whose rules the cluster role at this place has
+-- the places of the roles whose written rules the cluster role at this place has
 abbrev pub AreSourcesAt : Held → ℕ → List ℕ → Type 0
 AreSourcesAt h at ps = (r : ClusterRole) → slice_get h.cluster_roles at ≡ Some r
     → AreSourcesOf h r ps
@@ -88,15 +89,17 @@ pub record AreReachedByEach (h : Held) (rows : Graph) : Type 0 where
   pub exact : (at : ℕ) (r : ClusterRole) → slice_get h.cluster_roles at ≡ Some r
       → (k : ℕ) → HasEdge rows at k ↔ IsReachedAt h r k
 
--- the places of the rules of a role, or of these cluster roles, each with the place of a binding
+-- how many rules a role has; none if there is no role
 abbrev pub rule_count : Option (List Rule) → ℕ
 rule_count None = 0
 rule_count (Some rules) = length rules
 
+-- the places of the rules of a role, each with the place of a binding
 abbrev pub role_places : Held → ℕ → ℕ → List GrantPlace
 role_places h binding at =
     places_of binding (RoleAt at) (rule_count (option_map (λ r. r.rules) (slice_get h.roles at)))
 
+-- the places of the rules of these cluster roles, each with the place of a binding
 abbrev pub places_in : Held → ℕ → List ℕ → List GrantPlace
 places_in h binding ps =
     flat_map (λ at. places_of binding (ClusterRoleAt at)

@@ -33,17 +33,21 @@ pub record Held : Type 0 where
   pub cluster_roles : List ClusterRole
   pub bindings : List Binding
 
--- an object's name: its kind, namespace and name; a cluster-scoped object has the empty namespace
+-- the name of a role: its kind, namespace and name
 abbrev pub role_name : Role → List Text
 role_name r = codes "Role" ∷ r.namespace ∷ r.name ∷ []
 
+-- the name of a cluster role: its kind, the empty namespace, and its name
 abbrev pub cluster_role_name : ClusterRole → List Text
 cluster_role_name r = codes "ClusterRole" ∷ [] ∷ r.name ∷ []
 
+-- the name of a binding in that namespace, or of a ClusterRoleBinding, which has the empty
+-- namespace
 abbrev pub binding_name_at : Option Text → Text → List Text
 binding_name_at None name = codes "ClusterRoleBinding" ∷ [] ∷ name ∷ []
 binding_name_at (Some namespace) name = codes "RoleBinding" ∷ namespace ∷ name ∷ []
 
+-- the name of a binding: its kind, namespace and name
 abbrev pub binding_name : Binding → List Text
 binding_name b = binding_name_at b.namespace b.name
 
@@ -54,8 +58,7 @@ pub record IsHeld (h : Held) : Type 0 where
   pub cluster_roles : IsAscendingBy cluster_role_name h.cluster_roles
   pub bindings : IsAscendingBy binding_name h.bindings
 
--- new holds the object in place of anything that had its kind and name, and otherwise what old
--- holds
+-- new holds the object, and the objects of old that have another kind or name
 abbrev pub Puts : Held → Held → Object → Type 0
 Puts old new (ARole r) = IsPut role_name old.roles new.roles r
     × (new.cluster_roles ≡ old.cluster_roles) × (new.bindings ≡ old.bindings)
@@ -80,8 +83,8 @@ abbrev pub Gathers : Option (List Selector) → ClusterRole → Type 0
 Gathers None s = ⊥
 Gathers (Some selectors) s = Any (λ selector. Selects selector s.labels) selectors
 
--- one step: r is aggregated, s is another role, and some selector of r selects its labels (Using
--- RBAC Authorization, Aggregated ClusterRoles)
+-- one step: r is aggregated, s is another role, and some selector of r selects the labels of s
+-- (Using RBAC Authorization, Aggregated ClusterRoles)
 abbrev pub Step : Held → ClusterRole → ClusterRole → Type 0
 Step h r s = Contains h.cluster_roles s × (r.name ≢ s.name) × Gathers r.aggregation s
 
@@ -90,8 +93,7 @@ abbrev pub IsSelectionPath : Held → ClusterRole → List ClusterRole → Clust
 IsSelectionPath h r [] s = Step h r s
 IsSelectionPath h r (m ∷ ms) s = Step h r m × IsSelectionPath h m ms s
 
--- s is reached from r by one or more steps (own: the settled state, computed from plain roles
--- alone)
+-- r reaches s by one or more steps (own: the settled state, computed from plain roles alone)
 abbrev pub Reaches : Held → ClusterRole → ClusterRole → Type 0
 Reaches h r s = (between : List ClusterRole) × IsSelectionPath h r between s
 
@@ -132,8 +134,8 @@ AreRulesOf h (InClusterRole r) rules =
     × ((ss : List ClusterRole) × AreGathered h r ss
     × (rules ≡ flat_map (λ s. written_from (InClusterRole s) 0 s.rules) ss)))
 
--- the role that a reference in that namespace, or in none, refers to (Using RBAC Authorization,
--- RoleBinding and ClusterRoleBinding); in none it is never a Role
+-- the role that a binding in that namespace, or in none, refers to (Using RBAC Authorization,
+-- RoleBinding and ClusterRoleBinding); a ClusterRoleBinding never refers to a Role
 abbrev pub IsRefTo : Held → Option Text → RoleRef → Source → Type 0
 IsRefTo h (Some namespace) (ToRole name) (InRole r) = Contains h.roles r × (r.namespace ≡ namespace)
     × (r.name ≡ name)
@@ -141,13 +143,13 @@ IsRefTo h _ (ToClusterRole name) (InClusterRole r) = Contains h.cluster_roles r 
 IsRefTo h _ _ _ = ⊥
 
 -- the rules that a binding brings: those of its role (Using RBAC Authorization, RoleBinding and
--- ClusterRoleBinding); a dangling one brings none
+-- ClusterRoleBinding), or none if its role isn't held
 abbrev pub AreRulesFor : Held → Binding → List SourcedRule → Type 0
 AreRulesFor h b rules =
     ((role : Source) × IsRefTo h b.namespace b.role role × AreRulesOf h role rules)
     ⊎ (((role : Source) → ¬ IsRefTo h b.namespace b.role role) × (rules ≡ []))
 
--- a binding whose role is held, and a rule of that role
+-- a grant: a binding whose role is held, and a rule of that role
 pub record GrantView : Type 0 where
   pub binding : Binding
   pub rule : SourcedRule
@@ -173,7 +175,7 @@ sourced_at h (ClusterRoleAt at) i =
     option_and_then (λ role. rule_at (InClusterRole role) role.rules i)
     (slice_get h.cluster_roles at)
 
--- the grant at these places, if its parts are there
+-- the grant at these places, if its binding, its role and its rule are held
 abbrev pub grant_at : Held → GrantPlace → Option GrantView
 grant_at h g =
     option_and_then (λ b. option_map
@@ -189,12 +191,12 @@ pub record PolicyView : Type 0 where
   pub held : Held
   pub grants : List GrantView
 
--- the grant with that number is one of the binding at that place
+-- the grant with that number belongs to the binding at that place
 abbrev pub IsOfBinding : PolicyView → ℕ → ℕ → Type 0
 IsOfBinding p n at = (g : GrantView) × (slice_get p.grants n ≡ Some g)
     × (slice_get p.held.bindings at ≡ Some g.binding)
 
--- a policy's grants are those of its bindings
+-- a policy holds one object for each name, and its grants are those of its bindings
 abbrev pub IsPolicy : PolicyView → Type 0
 IsPolicy p = IsHeld p.held × AreGrantsOf p.held p.held.bindings p.grants
 
@@ -211,8 +213,8 @@ abbrev pub OneListOfGrants : Held → Type 0
 OneListOfGrants h = (gs others : List GrantView) → AreGrantsOf h h.bindings gs
     → AreGrantsOf h h.bindings others → gs ≡ others
 
--- where a binding in that namespace, or in none, is live (Using RBAC Authorization): everywhere if
--- in none, otherwise for resources of its own namespace
+-- where a binding is live (Using RBAC Authorization): a ClusterRoleBinding everywhere, a
+-- RoleBinding for resources in its own namespace, but never in the empty one
 abbrev pub Live : Option Text → Text → What → Type 0
 Live None asked t = Unit {0}
 Live (Some namespace) asked (Resource _ _ _) = (asked ≢ []) × (namespace ≡ asked)

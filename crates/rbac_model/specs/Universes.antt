@@ -17,18 +17,18 @@ use Rattle.rbac_terms.specs.declared.granting.Binding.{Binding}
 abbrev pub Listed : Type 0
 Listed = What × Bool
 
--- what is asked for (own): four lists without repeats, each in order
+-- which requests a matrix asks about (own): four lists without repeats, each in order
 pub record UniverseView : Type 0 where
   pub principals : List Who
   pub namespaces : List Text
   pub verbs : List Text
   pub targets : List Listed
 
--- how many principals, how many namespaces and how many verbs a universe may have, and how many
--- targets (own)
+-- how many principals, how many namespaces and how many verbs a universe may have (own)
 abbrev pub most_words : ℕ
 most_words = 65535
 
+-- how many targets a universe may have (own)
 abbrev pub most_targets : ℕ
 most_targets = 1000000
 
@@ -64,7 +64,7 @@ abbrev pub IsCellOf : UniverseView → Cell → Type 0
 IsCellOf u c = Contains u.principals c.who × Contains u.namespaces c.namespace
     × Contains u.verbs c.verb × Contains u.targets c.target
 
--- a request that fits, with the first binding that grants it
+-- the parts of a row: a request, and a binding
 pub record RowView : Type 0 where
   pub cell : Cell
   pub binding : Binding

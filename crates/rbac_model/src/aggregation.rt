@@ -1,4 +1,4 @@
-//! What aggregated roles gather from.
+//! The roles that aggregated roles gather rules from.
 
 ghost use Rattle.std.specs.Prelude.{◌≡◌, ◌+◌, ◌*◌, ◌/◌, ◌<◌, ◌≤◌, IfOk, OnOk};
 ghost use Rattle.std.specs.Prelude.{IsOkAnd, Contains, Any, Some, [], length, min, slice_get};
@@ -34,7 +34,7 @@ fn steps_of(alloc: Global, objects: &Objects) -> Result<Vec<PlaceSet>, AllocErro
     rows_of(alloc, objects, &labelled)
 }
 
-// The same, looked up in the labels of the cluster roles.
+// The same sets, found by look-up in the labels of the cluster roles.
 fn rows_of(
     alloc: Global,
     objects: &Objects,
@@ -51,7 +51,7 @@ fn rows_of(
     Ok(rows)
 }
 
-// The places of the cluster roles that one step leads to from the one at this place.
+// The places of the cluster roles that one step leads to from this role, which is at `at`.
 fn steps_from(
     alloc: Global,
     objects: &Objects,
@@ -74,9 +74,8 @@ fn steps_from(
     Ok(row)
 }
 
-// The places of the cluster roles whose written rules the one at this place has. Each list is read
-// out of the role's set when a binding asks for it, because the lists of all roles might not fit in
-// memory.
+// The places of the cluster roles whose written rules the cluster role at this place has. The list
+// is made when a binding needs it, because the lists of all roles might not fit in memory.
 pub(crate) fn sources_at(
     alloc: Global,
     objects: &Objects,
@@ -96,7 +95,7 @@ pub(crate) fn sources_at(
     plain_in(alloc, roles, &reached[at])
 }
 
-// Those of these places that have a plain role, ascending.
+// The places of this set that have a plain role, ascending.
 fn plain_in(
     alloc: Global,
     roles: &[ClusterRole],
@@ -115,7 +114,7 @@ fn plain_in(
     Ok(row)
 }
 
-// Adds the places of the plain roles that have their bit in one word.
+// Adds the places of the plain roles among the places of one word.
 fn put_plain(
     roles: &[ClusterRole],
     places: &PlaceSet,
@@ -137,8 +136,8 @@ fn put_plain(
     Ok(())
 }
 
-// The names of the cluster roles that the one with this name reaches. A plain role reaches none,
-// and if no role has the name, there are none; nothing is allocated then.
+// The names of the cluster roles that the cluster role with this name reaches. If that role is
+// plain or doesn't exist, the list is empty and nothing is allocated.
 pub(crate) fn names_from(
     alloc: Global,
     objects: &Objects,

@@ -6,8 +6,8 @@ use std::alloc::{AllocError, AllocFailed};
 use std::error::Error;
 use std::fmt;
 
-/// Why objects don't resolve to a policy (own). Its text is the number and name of the refusal;
-/// out of memory has no number there.
+/// Why objects don't resolve to a policy (own). A fault is printed as the refusal's number and
+/// name; out of memory is printed without a number.
 #[derive(Debug, Drop, Clone, Copy, PartialEq, Eq)]
 pub enum ResolveFault {
     /// P2: more than a million grants.

@@ -119,8 +119,8 @@ fn put_sources(
     Ok(())
 }
 
-// Adds the grants of a binding, one for each of this many rules of a role. Too many are refused
-// before anything is allocated.
+// Adds this many grants of a binding, one for each rule of a role. Refuses too many before it
+// allocates anything.
 fn put_rules(
     binding: usize,
     role: RolePlace,

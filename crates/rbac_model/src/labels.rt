@@ -1,5 +1,5 @@
-//! The labels of all cluster roles, in order. What a selector selects is looked up in them, so that
-//! no export can make that slow.
+//! The labels of all cluster roles, in order. Selectors are looked up in them, so that no export
+//! can make selecting slow.
 
 ghost use Rattle.std.specs.Prelude.{◌≡◌, ◌↔◌, ◌⊎◌, ◌≤◌, ◌<◌, ◌/◌, [], ℕ, Any, All, IfOk};
 ghost use Rattle.std.specs.Prelude.{OnOk, IsTrue, length, slice_get, Some};
@@ -22,7 +22,7 @@ use std::cmp::Ordering;
 use std::marker::Model;
 
 // A label, and which of 64 neighbouring cluster roles have it: those whose bit is 1 in `bits`, the
-// word that `place` is in. Without a value it stands for all labels of its key.
+// word that contains `place`. Without a value, the entry is about all labels with its key.
 #[derive(Drop)]
 struct Entry<'a> {
     key: &'a Word,
@@ -45,7 +45,7 @@ impl<'a> Model for Entry<'a> {
 }
 
 impl<'a> Entry<'a> {
-    // How its label compares with this one; a key alone comes before the labels of that key with a
+    // How the entry's label compares with this one; a key alone comes before the same key with a
     // value.
     fn cmp_label(&self, key: &Word, value: Option<&Word>) -> Ordering
         ensures { result
@@ -60,7 +60,7 @@ impl<'a> Entry<'a> {
         })
     }
 
-    // Whether both are about one label and the cluster roles of one word.
+    // Whether both entries have the same label, and cluster roles of the same word.
     fn joins(&self, other: &Entry) -> bool
         ensures { IsTrue result
             ↔ ((self.now.label ≡ other.now.label)
@@ -227,7 +227,7 @@ impl<'a> Labelled<'a> {
         Ok(places)
     }
 
-    // Adds the cluster roles that have this label.
+    // Adds the cluster roles that have this label, or, if there is no value, a label of this key.
     fn put_having(
         &self,
         key: &Word,
@@ -263,7 +263,7 @@ fn label_range(entries: &[Entry], key: &Word, value: Option<&Word>) -> (usize, u
     )
 }
 
-// Adds the labels of the cluster role at this place, and their keys.
+// Adds two entries for each label of the cluster role at this place: the label, and its key alone.
 fn push_labels<'a>(
     labels: &'a Labels,
     place: usize,
@@ -290,8 +290,8 @@ fn push_labels<'a>(
     Ok(())
 }
 
-// The same labels, with one entry in place of those of one label and one word, because roles that
-// all select by one label would otherwise take as many steps each as there are roles.
+// Joins the entries that have the same label and the same word. Otherwise, if all roles select by
+// one label, each of them would take as many steps as there are roles.
 fn joined<'a>(alloc: Global, entries: Vec<Entry<'a>>) -> Result<Vec<Entry<'a>>, AllocError>
     requires { AreInLabelOrder entries.items }
     ensures { IfOk result
@@ -304,7 +304,7 @@ fn joined<'a>(alloc: Global, entries: Vec<Entry<'a>>) -> Result<Vec<Entry<'a>>, 
     Ok(joined)
 }
 
-// Adds an entry to the last one, if they join, or after it.
+// Joins an entry to the last one, if both have the same label and word, or adds it after the last.
 fn put_entry<'a>(joined: &mut Vec<Entry<'a>>, added: Entry<'a>) -> Result<(), AllocError>
     ensures { OnOk result (IsWithEntry joined.old.items added.entry joined.new.items) }
 {

@@ -12,19 +12,19 @@ ghost use Rattle.rbac_terms.specs.Text.{Text};
 ghost use Rattle.rbac_terms.specs.declared.matching.Rule.{Rule};
 
 /// Held objects have only one list of grants. So the objects of a policy determine its grants, and
-/// whether there are too many of them, no matter who lists them (own).
+/// whether it has too many (own).
 pub fn grants_are_one_list()
     ensures { (held : Held) → IsHeld held → OneListOfGrants held }
 {}
 
-/// The objects given determine which of them are kept (own).
+/// The given objects determine which of them are kept (own).
 pub fn kept_objects_are_one()
     ensures { (given : List Object) (held others : Held) → AreKept given held → AreKept given others
         → held ≡ others }
 {}
 
-/// A rule's words, taken as texts, are matched by the rule: its verbs, groups, resource words and
-/// names, and the paths that its URL words are taken as. So each rule allows its own samples (own).
+/// A rule matches its own words, taken as texts: its verbs, groups, resource words and names, and
+/// the samples of its URL words. So each rule allows its own samples (own).
 pub fn words_match_themselves()
     ensures verbs { (r : Rule) (v : Text) → Contains r.verbs v → VerbOk r v }
     ensures groups { (r : Rule) (g : Text) → Contains r.groups g

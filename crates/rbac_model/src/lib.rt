@@ -1,6 +1,5 @@
-//! Policies: the objects of an export, and the grants that follow from them. The terms that they
-//! are made of are defined in `rbac_terms`; those that a user of policies needs are re-exported
-//! here.
+//! Policies: the objects of an export, and the grants that follow from them. `rbac_terms` defines
+//! the terms that policies are made of; this crate re-exports those that its users need.
 #![tactic(auto)]
 
 mod aggregation;

@@ -7,10 +7,10 @@ ghost use Rattle.rbac_model.specs.Scopes.{LiveIn, MayBeLiveIn};
 
 use rbac_terms::{Binding, Scope, Target, Word};
 
-/// Whether a binding of the namespace `home`, or a ClusterRoleBinding if there is none, is live for
-/// this target in this namespace (Using RBAC Authorization): a ClusterRoleBinding is live everywhere,
-/// a RoleBinding only for resources of its own namespace, and never in the empty one. Doesn't
-/// allocate.
+/// Whether a binding in the namespace `home`, or a ClusterRoleBinding if `home` is `None`, is live
+/// for this target in this namespace (Using RBAC Authorization). A ClusterRoleBinding is live
+/// everywhere, a RoleBinding only for resources in its own namespace, and never in the empty one.
+/// Doesn't allocate.
 pub fn is_live_at(home: Option<&Word>, namespace: &Word, target: &Target) -> bool
     ensures { IsTrue result ↔ Live (option_copied home.entry) namespace.now target.now }
 {
@@ -20,15 +20,15 @@ pub fn is_live_at(home: Option<&Word>, namespace: &Word, target: &Target) -> boo
     }
 }
 
-/// Whether the binding is live for this target in this namespace, as `is_live_at` says of its
-/// namespace. Doesn't allocate.
+/// Whether the binding is live for this target in this namespace, by the rule of [`is_live_at`].
+/// Doesn't allocate.
 pub fn is_live(binding: &Binding, namespace: &Word, target: &Target) -> bool
     ensures { IsTrue result ↔ Live binding.now.namespace namespace.now target.now }
 {
     is_live_at(binding.namespace.as_ref(), namespace, target)
 }
 
-/// Whether the binding is live for this target where a request is asked (own). Doesn't allocate.
+/// Whether the binding is live for this target in this scope (own). Doesn't allocate.
 pub fn is_live_in(scope: &Scope, binding: &Binding, target: &Target) -> bool
     ensures { IsTrue result ↔ LiveIn scope.now binding.now.namespace target.now }
 {
@@ -40,8 +40,7 @@ pub fn is_live_in(scope: &Scope, binding: &Binding, target: &Target) -> bool
     }
 }
 
-/// Whether the binding may be live where something is asked, for some target (own). Doesn't
-/// allocate.
+/// Whether the binding may be live in this scope, for some target (own). Doesn't allocate.
 pub fn may_be_live_in(scope: &Scope, binding: &Binding) -> bool
     ensures { IsTrue result ↔ MayBeLiveIn scope.now binding.now.namespace }
 {

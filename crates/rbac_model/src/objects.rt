@@ -97,10 +97,10 @@ impl Objects {
         }
     }
 
-    /// Adds an object, replacing the one of its kind, namespace and name if there is one, and
-    /// returns whether there was one (own: the later object replaces the earlier). A
-    /// ClusterRoleBinding and a RoleBinding are of different kinds. If it runs out of memory, the
-    /// objects stay as they were.
+    /// Adds an object, in place of any object with the same kind, namespace and name, and returns
+    /// whether there was one (own: the later object replaces the earlier). A ClusterRoleBinding and
+    /// a RoleBinding are of different kinds. Fails only if it runs out of memory, with P5 NoMemory,
+    /// and then leaves the objects unchanged.
     pub fn put(&mut self, object: Object) -> Result<bool, ModelFault>
         ensures ok { OnOk result (Puts self.old self.new object) }
         ensures replaced { IfOk result (λ was. IsTrue was ↔ HasNameOf self.old object) }
@@ -140,13 +140,14 @@ impl Objects {
     }
 }
 
-/// An object that has a name among those of its kind. A role and a RoleBinding have their namespace
-/// in it; cluster roles and ClusterRoleBindings have none (Using RBAC Authorization, API objects).
+/// An object that has a name among the objects of its kind. The name of a role or a RoleBinding
+/// includes the namespace; cluster roles and ClusterRoleBindings have no namespace (Using RBAC
+/// Authorization, API objects).
 pub trait Named {
     ghost name: { Self → List Text };
 
-    /// Compares the names of two objects. `Objects` holds its own in this order: by namespace, then
-    /// by name, and ClusterRoleBindings before RoleBindings.
+    /// Compares the names of two objects: by namespace, then by name, and ClusterRoleBindings
+    /// before RoleBindings. Each list of `Objects` is in this order.
     fn cmp_name(&self, other: &Self) -> Ordering
         ensures { result ≡ by_name name self.now other.now };
 }
@@ -188,8 +189,8 @@ impl Named for Binding {
     }
 }
 
-// Whether the item's name is greater than the names of all of these, as happens if items come in
-// order of names.
+// Whether the item's name is greater than the names of all these items. If items come in order of
+// names, it always is.
 fn comes_last<T: Named>(items: &[T], item: &T) -> bool
     requires { IsAscendingBy T.name items.now }
     ensures { IsTrue result → IsGapForName T.name items.now item.now (length items.now) }
@@ -200,7 +201,7 @@ fn comes_last<T: Named>(items: &[T], item: &T) -> bool
     }
 }
 
-// Where the name of this item is, or where it would go.
+// The place of the item with the same name, or else the place where this item would go.
 pub(crate) fn place<T: Named>(items: &[T], item: &T) -> Result<usize, usize>
     requires { IsAscendingBy T.name items.now }
     ensures found { IfOk result (IsAtName T.name items.now item.now) }
@@ -212,7 +213,7 @@ pub(crate) fn place<T: Named>(items: &[T], item: &T) -> Result<usize, usize>
     items.binary_search_by(|held| held.cmp_name(item))
 }
 
-// Puts an item in its place, replacing the one of its name if there is one, and returns whether
+// Puts an item in its place, where it replaces any item with the same name, and returns whether
 // there was one.
 pub(crate) fn put<T: Named + Drop>(items: &mut Vec<T>, item: T) -> Result<bool, AllocError>
     requires { IsAscendingBy T.name items.old.items }

@@ -1,4 +1,4 @@
-//! The URL words of a rule, taken as texts that are asked for.
+//! The URL words of a rule, taken as texts that a request asks for.
 
 ghost use Rattle.std.specs.Prelude.{◌≡◌, ◌↔◌, ◌++◌, IsTrue, Any, MatchOption, codes};
 ghost use Rattle.rbac_model.specs.OwnWords.{AllowsUrlWord, GivesPath, IsStars};
@@ -7,7 +7,7 @@ ghost use Rattle.rbac_terms.specs.Targets.{IsPath};
 
 use rbac_terms::{Rule, Word, is_path, url_matches};
 
-/// Whether a URL word matches some path: it begins with a slash, or consists of stars (own).
+/// Whether a URL word matches some path: the word begins with a slash, or consists of stars (own).
 /// Doesn't allocate.
 pub fn gives_path(word: &Word) -> bool
     ensures { IsTrue result ↔ GivesPath word.now }
@@ -16,8 +16,8 @@ pub fn gives_path(word: &Word) -> bool
 }
 
 /// Whether the rule allows this URL word, taken as a text, and so every path that the word matches
-/// (own). Stars at its end count as one star: what allows the word with all of them allows it with
-/// one, and the other way round. Doesn't allocate.
+/// (own). Several stars at the word's end count as one: a rule that allows the word with all of
+/// them allows it with one, and the other way round. Doesn't allocate.
 pub fn allows_url_word(rule: &Rule, word: &Word) -> bool
     ensures { IsTrue result ↔ AllowsUrlWord rule.now word.now }
 {

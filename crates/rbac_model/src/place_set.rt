@@ -32,7 +32,7 @@ impl PlaceSet {
         }
     }
 
-    // Whether there is no room for any place.
+    // Whether the set has no words, and so no places.
     pub(crate) fn is_empty(&self) -> bool
         ensures { IsTrue result ↔ (self.now ≡ []) }
     {
@@ -46,7 +46,7 @@ impl PlaceSet {
         (self.word(place / 64) >> (place % 64)) & 1 == 1
     }
 
-    // The word at a place, or 0 if there is none.
+    // The word with this number, or 0 if there is none.
     pub(crate) fn word(&self, at: usize) -> u64
         ensures { result ≡ slice_index_or self.now at 0 }
     {
@@ -56,7 +56,7 @@ impl PlaceSet {
         }
     }
 
-    // Whether some place of a word is in the set.
+    // Whether some place of the word with this number is in the set.
     pub(crate) fn has_word(&self, at: usize) -> bool
         ensures { result ≡ false → (k : ℕ) → k / 64 ≡ at → ¬ HasPlace self.now k }
     {
@@ -96,8 +96,8 @@ impl PlaceSet {
         None
     }
 
-    // A place that is in this set and in `with`, but not in `other`. The words before that of
-    // `from` aren't looked at.
+    // A place that is in this set and in `with`, but not in `other`. The search begins with the
+    // word that contains `from`.
     pub(crate) fn shared_outside(
         &self,
         with: &PlaceSet,
@@ -119,7 +119,7 @@ impl PlaceSet {
         None
     }
 
-    // The set of all places below this one.
+    // The set of all places below `count`.
     pub(crate) fn up_to(alloc: Global, count: usize) -> Result<Self, AllocError>
         ensures { IfOk result (λ places. (k : ℕ) → HasPlace places k ↔ (k < count)) }
     {
@@ -141,7 +141,7 @@ impl PlaceSet {
         Ok(())
     }
 
-    // Adds, of the word of this place, the places whose bit is 1.
+    // Adds the places whose bit is 1 in `bits`, the word that contains `place`.
     pub(crate) fn put(&mut self, place: usize, bits: u64) -> Result<(), AllocError>
         ensures { OnOk result
             ((k : ℕ) → HasPlace self.new k

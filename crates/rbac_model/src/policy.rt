@@ -55,10 +55,10 @@ impl Model for Policy {
 
 impl Policy {
     /// The policy of these objects, with the grants that follow from them. A binding whose role
-    /// isn't held brings no grants; an aggregated role has the rules of the plain ones that it
+    /// isn't held has no grants. An aggregated role has the rules of the plain roles that it
     /// reaches, in order of their names (own: the state in which aggregation settles). Fails with
-    /// `TooMany` for more than a million grants, and with `NoMemory` if it runs out of memory; the
-    /// objects aren't handed back then.
+    /// P2 TooMany for more than a million grants, and with P5 NoMemory if it runs out of memory; in
+    /// both cases, the objects are dropped.
     pub fn resolve(alloc: Global, objects: Objects) -> Result<Self, ResolveFault>
         ensures held { IfOk result (λ p. p.held ≡ objects) }
         ensures policy { IfOk result (λ p. IsPolicy p) }
@@ -74,10 +74,10 @@ impl Policy {
         })
     }
 
-    /// The names of the cluster roles that the one with this name reaches by one or more steps of
-    /// aggregation, ascending (Using RBAC Authorization, Aggregated ClusterRoles). A plain role
-    /// reaches none, and if no cluster role has the name, there are none either; nothing is
-    /// allocated then.
+    /// The names of the cluster roles that the cluster role with this name reaches by one or more
+    /// selection steps, ascending (Using RBAC Authorization, Aggregated ClusterRoles). If that role
+    /// is plain or isn't held, the list is empty and nothing is allocated. Fails only if it runs
+    /// out of memory, with P5 NoMemory.
     pub fn reached(&self, alloc: Global, name: &Word) -> Result<Words, ResolveFault>
         ensures reached { IfOk result
             (λ ws. (r : ClusterRole) → Contains self.now.held.cluster_roles r → r.name ≡ name.now
@@ -92,9 +92,9 @@ impl Policy {
         Ok(names)
     }
 
-    /// Whether the cluster role at the first place reaches the one at the second by one or more
-    /// steps of aggregation (Using RBAC Authorization, Aggregated ClusterRoles). Places are counted
-    /// from 0, in order of names. Doesn't allocate.
+    /// Whether the cluster role at place `from` reaches the one at place `to` by one or more
+    /// selection steps (Using RBAC Authorization, Aggregated ClusterRoles). Places are counted from
+    /// 0, in order of names. Doesn't allocate.
     pub fn reaches(&self, from: usize, to: usize) -> bool
         requires { from < length self.now.held.cluster_roles }
         ensures reaches { (r : ClusterRole) → slice_get self.now.held.cluster_roles from ≡ Some r
@@ -119,7 +119,7 @@ impl Policy {
         self.objects.bindings()
     }
 
-    /// How many grants there are.
+    /// How many grants the policy has: at most a million.
     pub fn len(&self) -> u32
         ensures len { result ≡ length self.now.grants }
         ensures few { length self.now.grants ≤ most_grants }
@@ -149,8 +149,8 @@ impl Policy {
     }
 
     /// The numbers of the grants of the binding at this place: from the first number up to, but not
-    /// including, the second; the two are equal if it has none. Grants are in order of bindings, so
-    /// those of one binding are next to each other. Doesn't allocate.
+    /// including, the second; the two are equal if the binding has no grants. Grants are in order
+    /// of bindings, so the grants of a binding have consecutive numbers. Doesn't allocate.
     pub fn grants_of(&self, place: usize) -> (u32, u32)
         ensures ordered { result.0 ≤ result.1 }
         ensures within { result.1 ≤ length self.now.grants }

@@ -1,4 +1,4 @@
-//! What is reached in a graph by one or more edges.
+//! Which vertices of a graph are reached by one or more edges.
 
 ghost use Rattle.std.specs.Prelude.{◌≡◌, ◌<◌, ◌⊎◌, ◌↔◌, ℕ, IfOk, OnOk, MatchOption, length};
 ghost use Rattle.std.specs.Prelude.{vec_len};
@@ -83,8 +83,8 @@ fn close_at(
     closed.insert(at)
 }
 
-// All vertices that a vertex leads to. The search takes the edges of each vertex that it visits;
-// what a closed vertex has edges to needs no visit.
+// All vertices that a vertex leads to. The search takes the edges of each vertex that it visits. It
+// needn't visit the vertices to which a closed vertex has edges.
 fn reach(
     graph: &[PlaceSet],
     closed: &PlaceSet,
@@ -107,7 +107,7 @@ fn reach(
     Ok(seen)
 }
 
-// The next vertex to visit: a closed one that isn't far, otherwise the first.
+// The next vertex to visit: the first closed one from the word of `near` on, otherwise the first.
 fn next(
     seen: &PlaceSet,
     done: &PlaceSet,
@@ -125,8 +125,8 @@ fn next(
     }
 }
 
-// Takes the edges of a vertex. Then that vertex is done, and if it is closed, so is everything that
-// it has edges to.
+// Takes the edges of a vertex, which is then done. If the vertex is closed, all vertices to which
+// it has edges are done too.
 fn take(
     graph: &[PlaceSet],
     closed: &PlaceSet,

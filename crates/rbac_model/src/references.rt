@@ -1,4 +1,4 @@
-//! What the references of bindings refer to.
+//! The roles that bindings refer to.
 
 ghost use Rattle.std.specs.Prelude.{◌≡◌, ◌<◌, Any, HoldsAt, MatchOption, IsSome, Some, length};
 ghost use Rattle.rbac_model.specs.Lists.{IsAscendingBy};
@@ -52,7 +52,7 @@ pub(crate) fn grant_from<'a>(objects: &'a Objects, at: GrantPlace) -> Grant<'a>
     }
 }
 
-// The role at a place, and the rule at a place in it.
+// The role at a place, and its rule at `place`.
 fn sourced<'a>(objects: &'a Objects, role: RolePlace, place: usize) -> (SourceRole<'a>, &'a Rule)
     requires { IsSome (sourced_at objects.now role place) }
     ensures { sourced_at objects.now role place

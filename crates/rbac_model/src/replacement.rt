@@ -1,5 +1,5 @@
-//! Which of the objects given are kept: a later one replaces an earlier one of its kind, namespace
-//! and name.
+//! Which of the given objects are kept: a later object replaces an earlier one with the same kind,
+//! namespace and name.
 
 ghost use Rattle.std.specs.Prelude.{◌≡◌, ◌++◌, ◌∷◌, [], IfOk, IfErr, OnOk};
 ghost use Rattle.std.specs.List.{filter_map};
@@ -10,7 +10,7 @@ use crate::objects::{Named, Object, Objects, put};
 use rbac_terms::{Binding, ClusterRole, ModelFault, Role};
 use std::alloc::{AllocError, Global};
 
-// The objects given, kind by kind.
+// The given objects, by kind.
 #[derive(Drop)]
 struct Kinds {
     roles: Vec<Role>,
@@ -40,8 +40,9 @@ impl Kinds {
 }
 
 impl Objects {
-    /// The objects that are kept if these are given one after the other: the last one of each kind,
-    /// namespace and name. Any order is as fast as the order of names.
+    /// The objects that are kept of these given objects: the last one of each kind, namespace and
+    /// name (own). The objects are sorted first, so that no order of them is slow. Fails only if it
+    /// runs out of memory, with P5 NoMemory.
     pub fn from_given(alloc: Global, given: Vec<Object>) -> Result<Self, ModelFault>
         ensures kept { IfOk result (λ held. AreKept given.items held) }
         ensures only_memory { IfErr result (λ e. e ≡ ModelFault.NoMemory) }
@@ -77,8 +78,8 @@ fn by_kind(alloc: Global, given: Vec<Object>) -> Result<Kinds, AllocError>
     Ok(kinds)
 }
 
-// For each name, the last item that has it. The items are sorted first, so that each one goes at
-// the end.
+// For each name, the last item that has it. The items are sorted first, so that each item goes to
+// the end of the list.
 fn last_named<T: Named + Drop>(alloc: Global, mut given: Vec<T>) -> Result<Vec<T>, AllocError>
     ensures { IfOk result (λ kept. AreLastNamed T.name given.items kept.items) }
 {

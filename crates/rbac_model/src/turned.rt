@@ -1,4 +1,4 @@
-//! Turning the edges of a graph. Nothing is proved about the edges that come out, because they decide
+//! Turns the edges of a graph round. Nothing is proved about the turned edges, because they decide
 //! only how long a search takes.
 
 ghost use Rattle.std.specs.Prelude.{◌<◌};
@@ -6,8 +6,8 @@ ghost use Rattle.std.specs.Prelude.{◌<◌};
 use crate::place_set::PlaceSet;
 use std::alloc::{AllocError, Global};
 
-// For each of these vertices, the vertices that have an edge to it. Edges are turned by squares of
-// 64 rows and 64 places, because bit by bit a graph of all edges would take seconds.
+// For each of these vertices, the vertices that have an edge to it. Edges are turned in squares of
+// 64 rows and 64 places. Bit by bit, a graph with all edges would take seconds.
 pub(crate) fn turned(
     alloc: Global,
     graph: &[PlaceSet],
@@ -23,7 +23,8 @@ pub(crate) fn turned(
     Ok(turned)
 }
 
-// Turns 512 rows: they fill eight words of a turned row, which a processor fetches together.
+// Turns a band of 512 rows. They fill eight words of each turned row, which a processor fetches
+// together.
 fn turn_band(
     graph: &[PlaceSet],
     vertices: &PlaceSet,
@@ -38,7 +39,7 @@ fn turn_band(
     Ok(())
 }
 
-// Turns, of 512 rows, the edges that have their bit in one word.
+// Turns the edges of a band that lead to the vertices of one word.
 fn turn_squares(
     graph: &[PlaceSet],
     vertices: &PlaceSet,
@@ -57,7 +58,7 @@ fn turn_squares(
     Ok(())
 }
 
-// Of each of 64 rows the edges to these vertices that have their bit in one word.
+// The edges of 64 rows to those of these vertices that are in one word.
 fn square_of(graph: &[PlaceSet], vertices: &PlaceSet, from: usize, to: usize) -> [u64; 64] {
     let first = from.saturating_mul(64);
     let mut square = [0; 64];
@@ -87,8 +88,8 @@ fn put_square(
     Ok(())
 }
 
-// Exchanges rows and columns: of the square the upper right quarter and the lower left one, then
-// the same in each quarter, and so on down to single bits.
+// Exchanges rows and columns: first the upper right and the lower left quarter of the square, then
+// those of each quarter, and so on down to single bits.
 fn turn_square(square: &mut [u64; 64]) {
     if square.iter().all(|word| *word == 0) {
         return;
@@ -101,7 +102,7 @@ fn turn_square(square: &mut [u64; 64]) {
     exchange(square, 1, 0x5555_5555_5555_5555);
 }
 
-// Exchanges blocks of this width: `mask` has the bits of the left block of each two.
+// Exchanges blocks of this width; `mask` has the bits of the left block of each pair.
 fn exchange(square: &mut [u64; 64], width: usize, mask: u64)
     requires { width < 64 }
 {

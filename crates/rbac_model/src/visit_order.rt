@@ -1,14 +1,14 @@
-//! The order in which the vertices of a graph are closed. It decides only how long that takes, so
-//! nothing is proved about it.
+//! The order in which the vertices of a graph are closed. Nothing is proved about this order,
+//! because it decides only how long closing takes.
 
 use crate::place_set::PlaceSet;
 use crate::turned::turned;
 use std::alloc::{AllocError, Global};
 
-// The vertices that have edges, in an order in which a vertex comes after those that it leads to,
-// except within a cycle, where each vertex but the first has an edge to an earlier one. A
+// The vertices that have edges, in Kosaraju's order. A vertex comes after those that it leads to,
+// except within a cycle: there, each vertex but the first has an edge to an earlier one. A
 // depth-first search follows edges backwards; the later it leaves a vertex, the earlier the vertex
-// comes (Kosaraju's order).
+// comes.
 pub(crate) fn order_of(alloc: Global, graph: &[PlaceSet]) -> Result<Vec<usize>, AllocError> {
     let waiting = with_edges(alloc, graph)?;
     let turned = turned(alloc, graph, &waiting)?;
@@ -33,8 +33,8 @@ fn with_edges(alloc: Global, graph: &[PlaceSet]) -> Result<PlaceSet, AllocError>
     Ok(vertices)
 }
 
-// Takes one step of the search: to a waiting vertex that has an edge to the end of the path, or
-// back.
+// Takes one step of the search: to a vertex that isn't met yet and has an edge to the end of the
+// path, or back. An empty path begins with the first waiting vertex that isn't met yet.
 fn walk(
     turned: &[PlaceSet],
     waiting: &PlaceSet,

@@ -9,8 +9,8 @@ ghost use Rattle.rbac_model.specs.Policies.{BindingNames};
 use crate::references::SourceRole;
 use rbac_terms::{Binding, Principal, names};
 
-/// Why a request is allowed: the first grant that allows it, as its binding and where its rule is
-/// written, and the first subject of the binding that names who asks.
+/// Why a request is allowed (own): the first grant that allows it, by its binding and the place
+/// where its rule is written, and the first subject of the binding that names who asks.
 #[derive(Clone, Copy)]
 pub struct Why<'p> {
     /// The binding that grants.
@@ -23,7 +23,7 @@ pub struct Why<'p> {
     pub subject_place: usize,
 }
 
-/// The place, among the binding's subjects, of the first one that names the principal, from 0.
+/// The place, from 0, of the binding's first subject that names the principal; `None` if none does.
 /// Doesn't allocate.
 pub fn naming_place(binding: &Binding, principal: &Principal) -> Option<usize>
     ensures { MatchOption result (¬ BindingNames binding.now principal.now)

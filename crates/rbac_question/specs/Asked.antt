@@ -31,15 +31,15 @@ AsksFor target subresource (ForUrl path) = IsPath target × (path ≡ target) ×
 AsksFor target subresource (ForResource word sub name) = (¬ IsPath target)
     × IsTypeAndName target word name × (sub ≡ subresource)
 
--- TARGET is empty, or its type word has nothing before its dot
+-- U2 of a target: TARGET is empty, or its type word has nothing before its first dot
 abbrev pub LacksType : Text → Type 0
 LacksType target = (target ≡ []) ⊎ BeginsWith target (codes ".")
 
--- a URL has no subresources
+-- U3: a subresource is given for a URL, which has none
 abbrev pub HasUrlSubresource : Text → Text → Type 0
 HasUrlSubresource target subresource = IsPath target × (subresource ≢ [])
 
--- which refusal TARGET and the subresource lead to; out of memory may come at any time
+-- the refusal of TARGET and the subresource; out of memory may come at any time
 abbrev pub RefusesTarget : Text → Text → QuestionFault → Type 0
 RefusesTarget target subresource EmptyWord = LacksType target
 RefusesTarget target subresource UrlSubresource = HasUrlSubresource target subresource

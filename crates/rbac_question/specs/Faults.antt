@@ -22,7 +22,7 @@ fault_text BadIndirect = codes "U9 --indirect excludes --anywhere, --any-name, -
     ++ codes "--steps needs --indirect"
 fault_text NoMemory = codes "out of memory"
 
--- why a text is no token, as the refusal of the line that contains it
+-- the refusal of a line whose token has this fault
 abbrev pub question_fault : TokenFault → QuestionFault
 question_fault token.NotBase64 = BadToken
 question_fault token.BadVersion = BadToken

@@ -33,7 +33,7 @@ pub record QuestionParts : Type 0 where
   pub verb : Text
   pub target : Text
 
--- the parts of a `can-i` line; there is a text for each `--group`, in order
+-- the parts of a `can-i` line, with a text for each `--group`, in order
 pub record CanIParts : Type 0 where
   pub user : Text
   pub groups : Text
@@ -42,8 +42,8 @@ pub record CanIParts : Type 0 where
   pub why : Bool
   pub question : QuestionParts
 
--- the parts of a line that name somebody: WHO, what follows `--groups`, empty if it isn't given, and
--- a text for each `--group`, in order
+-- the parts of a line that name a principal: WHO, the text after `--groups`, which is empty if it
+-- isn't given, and a text for each `--group`, in order
 pub record WhoParts : Type 0 where
   pub key : Text
   pub groups : Text
@@ -74,6 +74,7 @@ comma = 44
 abbrev pub parts_between : ℕ → Text → List Text
 parts_between b text = slice_split (λ byte. byte == b) text
 
+-- the text has at least one byte
 abbrev pub is_not_empty : Text → Bool
 is_not_empty text = not (length text == 0)
 
@@ -86,12 +87,12 @@ abbrev pub names_in : Option (List Text) → List Text
 names_in None = []
 names_in (Some names) = names
 
--- the groups that are given: those of `--groups`, and then each `--group` that is not empty, whole, in
--- order (own)
+-- the groups that are given: the parts of `--groups`, and then each `--group` whole, in order,
+-- without empty ones (own)
 abbrev pub groups_given : Text → List Text → List Text
 groups_given text whole = groups_in text ++ filter is_not_empty whole
 
--- `-A` is the empty namespace and wins over `-n`; an empty or missing `-n` is `default` (own)
+-- `-A` means the empty namespace and overrides `-n`; an empty or missing `-n` means `default` (own)
 abbrev pub namespace_meant : Bool → Text → Text
 namespace_meant true given = []
 namespace_meant false given = if length given == 0 then codes "default" else given
@@ -110,16 +111,16 @@ MeansCanI l (CanI principal quiet why question) =
     × (why ≡ l.why) × IsQuestion l.question question
 MeansCanI l action = ⊥
 
--- WHO names the principal: `u:` and a user's name, who is given the groups of `--groups` and
--- `--group`, or `g:` and a group's name, where none of these options is given or all are empty;
--- neither name is empty (own)
+-- WHO names the principal: `u:` and the name of a user, who has the groups of `--groups` and
+-- `--group`; or `g:` and a group's name, if these options are missing or empty. Neither name is
+-- empty (own)
 abbrev pub NamesPrincipal : WhoParts → Who → Type 0
 NamesPrincipal l (AsUser name given) = (l.key ≡ codes "u:" ++ name) × (name ≢ [])
     × (given ≡ groups_given l.groups l.whole_groups)
 NamesPrincipal l (AsMember group) = (l.key ≡ codes "g:" ++ group) × (group ≢ [])
     × (l.groups ≡ []) × All (λ whole. whole ≡ []) l.whole_groups
 
--- `-A` is all of the cluster at once and wins over `-n`; an empty or missing `-n` is anywhere
+-- `-A` means the whole cluster at once and overrides `-n`; an empty or missing `-n` means anywhere
 -- (own)
 abbrev pub scope_meant : Bool → Text → Scope
 scope_meant true given = ClusterWide
@@ -131,14 +132,14 @@ MeansRules l (Rules principal scope) = NamesPrincipal l.who principal
     × (scope ≡ scope_meant l.all_namespaces l.namespace)
 MeansRules l action = ⊥
 
--- the mark is the one whose token is given; there is none if no token is given (own)
+-- the mark of `--after`: the one whose token is given, or none without a token (own)
 abbrev pub IsMarkGiven : Option Text → Option Mark → Type 0
 IsMarkGiven None after = after ≡ None
 IsMarkGiven (Some token) None = ⊥
 IsMarkGiven (Some token) (Some m) = IsTokenOfMark token m
 
--- what a `matrix` line means: it lists what comes after the token's mark, at most as many rows as
--- the limit says, with these options
+-- what a `matrix` line means: it lists the rows after the token's mark, at most as many as the
+-- limit, with these options
 abbrev pub MeansMatrix : MatrixParts → Action → Type 0
 MeansMatrix l (Matrix options after limit) =
     (options ≡ l.options) × IsMarkGiven l.after after × (limit ≡ l.limit)
@@ -152,35 +153,35 @@ IsCode n = (0 < n) × (n < 8)
 abbrev pub code_word : ℕ → Text
 code_word n = codes "L" ++ (48 + n) ∷ []
 
--- the text is the word of a code: it is one of L1, L2, .. L7, exactly so written
+-- the text is the word of a code: exactly one of L1, L2, .. L7
 unfoldable pub IsCodeWord : Text → Type 0
 IsCodeWord word = (n : ℕ) × IsCode n × (word ≡ code_word n)
 
--- the codes whose words stand between the commas of a text, in order (own)
+-- the codes that a text lists between its commas, in order (own)
 abbrev pub AreCodesIn : Text → List ℕ → Type 0
 AreCodesIn text numbers = All IsCode numbers × (parts_between comma text ≡ map code_word numbers)
 
--- the codes to list are those of `--only`; there is no choice if it isn't given (own)
+-- the codes to list are those of `--only`; without it, there is no list of codes (own)
 abbrev pub IsOnly : Option Text → Option (List ℕ) → Type 0
 IsOnly None only = only ≡ None
 IsOnly (Some text) None = ⊥
 IsOnly (Some text) (Some numbers) = AreCodesIn text numbers
 
--- what a `lint` line means: it lists the findings of these codes, with `--skip-system` without those
+-- what a `lint` line means: it lists the findings of these codes; `--skip-system` leaves out those
 -- about Kubernetes' own objects
 abbrev pub MeansLint : LintParts → Action → Type 0
 MeansLint l (Lint only skip_system) = IsOnly l.only (option_map vec_items only)
     × (skip_system ≡ l.skip_system)
 MeansLint l action = ⊥
 
--- what the files that aren't those of `--before` tell: `--after` stands alone, and so does either or
--- both of `--without` and `--with` (own)
+-- the change that a `diff` line gives: `--after` alone, or one or both of `--without` and `--with`
+-- (own)
 abbrev pub IsChange : DiffLine → Change → Type 0
 IsChange l After = (0 < l.after_files) × (l.without_files ≡ 0) × (l.with_files ≡ 0)
 IsChange l (Over without) = (l.after_files ≡ 0) × (0 < l.without_files + l.with_files)
     × (without ≡ l.without_files)
 
--- what a `diff` line means: it compares the files of `--before` with what is after this change
+-- what a `diff` line means: it compares the files of `--before` with the side after this change
 abbrev pub MeansDiff : DiffLine → Action → Type 0
 MeansDiff l (Diff before change) = (before ≡ l.before_files) × IsChange l change
 MeansDiff l action = ⊥
@@ -193,7 +194,7 @@ LacksWord l = (l.verb ≡ []) ⊎ LacksType l.target
 abbrev pub AcceptsQuestion : QuestionParts → Type 0
 AcceptsQuestion l = (¬ LacksWord l) × (¬ HasUrlSubresource l.target l.subresource)
 
--- the least refusal of a question
+-- the refusal of a question: U2 before U3; out of memory may come at any time
 abbrev pub RefusesQuestion : QuestionParts → QuestionFault → Type 0
 RefusesQuestion l EmptyWord = LacksWord l
 RefusesQuestion l UrlSubresource = (¬ LacksWord l) × HasUrlSubresource l.target l.subresource
@@ -209,7 +210,7 @@ RefusesQuestion l NoMemory = Unit {0}
 abbrev pub AcceptsCanI : CanIParts → Type 0
 AcceptsCanI l = (l.user ≢ []) × AcceptsQuestion l.question
 
--- the least refusal of a `can-i` line; out of memory may come at any time
+-- the refusal of a `can-i` line: U2 before U3; out of memory may come at any time
 abbrev pub RefusesCanI : CanIParts → QuestionFault → Type 0
 RefusesCanI l EmptyWord = (l.user ≡ []) ⊎ LacksWord l.question
 RefusesCanI l UrlSubresource = (l.user ≢ []) × RefusesQuestion l.question UrlSubresource
@@ -221,7 +222,7 @@ RefusesCanI l BadStep = ⊥
 RefusesCanI l BadIndirect = ⊥
 RefusesCanI l NoMemory = Unit {0}
 
--- U4: a text is given that isn't the token of any mark, with or without `--every` (own)
+-- U4: the text after `--after` isn't the token of any mark, with or without `--every` (own)
 abbrev pub HasBadToken : Option Text → Type 0
 HasBadToken None = ⊥
 HasBadToken (Some token) = (m : Mark) → ¬ IsTokenOfMark token m
@@ -242,7 +243,7 @@ RefusesMatrix l NoMemory = Unit {0}
 abbrev pub HasBadPrincipal : WhoParts → Type 0
 HasBadPrincipal l = (p : Who) → ¬ NamesPrincipal l p
 
--- the refusal of the parts that name somebody; out of memory may come at any time
+-- the refusal of the parts that name a principal; out of memory may come at any time
 abbrev pub RefusesWho : WhoParts → QuestionFault → Type 0
 RefusesWho l EmptyWord = ⊥
 RefusesWho l UrlSubresource = ⊥
@@ -258,8 +259,8 @@ RefusesWho l NoMemory = Unit {0}
 abbrev pub RefusesRules : RulesParts → QuestionFault → Type 0
 RefusesRules l e = RefusesWho l.who e
 
--- U6: a text is given of which a part between commas isn't the word of a code; an empty text has one
--- part, which is empty (own)
+-- U6: a part between the commas of `--only` isn't the word of a code; an empty text has one part,
+-- which is empty (own)
 abbrev pub HasBadCode : Option Text → Type 0
 HasBadCode None = ⊥
 HasBadCode (Some text) = ¬ All IsCodeWord (parts_between comma text)
@@ -276,7 +277,8 @@ RefusesLint l BadStep = ⊥
 RefusesLint l BadIndirect = ⊥
 RefusesLint l NoMemory = Unit {0}
 
--- U7: the files tell of no change, or of more than one (own)
+-- U7: none of `--after`, `--without` and `--with` is given, or `--after` with one of the others
+-- (own)
 abbrev pub HasBadChange : DiffLine → Type 0
 HasBadChange l = (change : Change) → ¬ IsChange l change
 

@@ -12,7 +12,7 @@ use Rattle.rbac_question.specs.declared.fault.QuestionFault.TheVariants.{BadCode
 use Rattle.rbac_question.specs.declared.fault.QuestionFault.TheVariants.{BadStep, BadIndirect}
 use Rattle.rbac_question.specs.declared.fault.QuestionFault.TheVariants.{NoMemory}
 
--- the parts of a `paths` line: those that name somebody, and what follows `--steps`
+-- the parts of a `paths` line: those that name a principal, and the text after `--steps`
 pub record PathsParts : Type 0 where
   pub who : WhoParts
   pub steps : Option Text
@@ -23,7 +23,7 @@ MeansPaths l (Paths principal chosen) = NamesPrincipal l.who principal × AreSte
     × (vec_items chosen ≡ steps_meant l.steps)
 MeansPaths l action = ⊥
 
--- the least refusal of a `paths` line; out of memory may come at any time
+-- the refusal of a `paths` line: U5 before U8; out of memory may come at any time
 abbrev pub RefusesPaths : PathsParts → QuestionFault → Type 0
 RefusesPaths l EmptyWord = ⊥
 RefusesPaths l UrlSubresource = ⊥

@@ -1,4 +1,4 @@
--- What the text after `--steps` means, in whichever line.
+-- What the text after `--steps` means, in a line of any command.
 use Rattle.std.specs.Prelude.{◌≡◌, Bool, List, Option, Some, None, All, Any, filter}
 use Rattle.std.specs.List.{list_any}
 use Rattle.std.specs.Str.{bytes_eq}
@@ -7,17 +7,17 @@ use Rattle.rbac_paths.specs.Steps.{steps, step_word}
 use Rattle.rbac_paths.specs.declared.steps.Step.{Step}
 use Rattle.rbac_question.specs.Lines.{parts_between, comma}
 
--- the text is the word of a step of the table, exactly so written
+-- the text is exactly the word of a step of the table
 unfoldable pub IsStepWord : Text → Type 0
 IsStepWord word = Any (λ step. word ≡ step_word step) steps
 
--- each part between the commas of what follows `--steps` is the word of a step; an empty text has
--- one part, which is empty (own)
+-- each part between the commas of `--steps` is the word of a step; an empty text has one part,
+-- which is empty (own)
 abbrev pub AreStepWords : Option Text → Type 0
 AreStepWords None = Unit {0}
 AreStepWords (Some text) = All IsStepWord (parts_between comma text)
 
--- U8: a text is given of which a part between commas isn't the word of a step (own)
+-- U8: a part between the commas of `--steps` isn't the word of a step (own)
 abbrev pub HasBadStep : Option Text → Type 0
 HasBadStep given = ¬ AreStepWords given
 
@@ -26,7 +26,7 @@ abbrev pub names_step : Text → Step → Bool
 names_step text step = list_any (bytes_eq (step_word step)) (parts_between comma text)
 
 -- the steps that count: those that `--steps` names, each once, in the order of the table; without
--- it all of the table (own)
+-- `--steps`, all of the table (own)
 abbrev pub steps_meant : Option Text → List Step
 steps_meant None = steps
 steps_meant (Some text) = filter (names_step text) steps

@@ -14,21 +14,21 @@ use Rattle.rbac_question.specs.declared.fault.QuestionFault.TheVariants.{BadCode
 use Rattle.rbac_question.specs.declared.fault.QuestionFault.TheVariants.{BadStep, BadIndirect}
 use Rattle.rbac_question.specs.declared.fault.QuestionFault.TheVariants.{NoMemory}
 
--- the parts of a `who-can` line: `--indirect`, what follows `--steps`, the options that say which
--- holders are listed, and the parts that ask the question
+-- the parts of a `who-can` line: `--indirect`, the text after `--steps`, the options about holders,
+-- and the parts that ask the question
 pub record WhoCanParts : Type 0 where
   pub indirect : Bool
   pub steps : Option Text
   pub options : HolderOptions
   pub question : QuestionParts
 
--- `-A` wins over `--anywhere` too (own)
+-- the options that count: `-A` overrides `--anywhere` too (own)
 abbrev pub options_meant : Bool → HolderOptions → HolderOptions
 options_meant true given = record given { anywhere = false }
 options_meant false given = given
 
--- what a `who-can` line means: it asks who is allowed what the question asks, with these options;
--- with `--indirect` it asks who comes by these steps to somebody who is allowed it
+-- what a `who-can` line means: with these options it asks who is allowed what the question asks;
+-- with `--indirect` it asks who comes by these steps to a node that is allowed it
 abbrev pub MeansWhoCan : WhoCanParts → Action → Type 0
 MeansWhoCan l (WhoCan options question) = (l.indirect ≡ false)
     × (options ≡ options_meant l.question.all_namespaces l.options) × IsQuestion l.question question
@@ -40,8 +40,8 @@ MeansWhoCan l action = ⊥
 abbrev pub no_options : HolderOptions
 no_options = record { why = false; every = false; anywhere = false; any_name = false }
 
--- with `--indirect` none of the options that say which holders are listed is given, and without it
--- no `--steps` (own)
+-- the options go together: `--indirect` excludes the options about holders, and `--steps` needs
+-- `--indirect` (own)
 abbrev pub GoTogether : WhoCanParts → Type 0
 GoTogether l = (l.indirect ≡ true → l.options ≡ no_options)
     × (l.indirect ≡ false → l.steps ≡ None)
@@ -50,8 +50,8 @@ GoTogether l = (l.indirect ≡ true → l.options ≡ no_options)
 abbrev pub AcceptsWhoCan : WhoCanParts → Type 0
 AcceptsWhoCan l = AcceptsQuestion l.question × AreStepWords l.steps × GoTogether l
 
--- the least refusal of a `who-can` line: U2 or U3 of its question, U8 for its steps, or U9 for
--- options that don't go together (own); out of memory may come at any time
+-- the refusal of a `who-can` line: U2 or U3 for its question, otherwise U8 for its steps, otherwise
+-- U9 for options that don't go together (own); out of memory may come at any time
 abbrev pub RefusesWhoCan : WhoCanParts → QuestionFault → Type 0
 RefusesWhoCan l EmptyWord = LacksWord l.question
 RefusesWhoCan l UrlSubresource = RefusesQuestion l.question UrlSubresource

@@ -15,7 +15,7 @@ use std::marker::Model;
 pub enum AskedFor {
     /// A URL, given by its path, which begins with a slash.
     Url(Word),
-    /// A type of resource, with a subresource and an object name, which may each be empty.
+    /// A resource type, with a subresource and an object name; each of these two may be empty.
     Resource {
         /// The type word: it isn't empty, has no slash and doesn't begin with a dot.
         word: Word,
@@ -39,7 +39,7 @@ impl Drop for AskedFor {
     }
 }
 
-/// What a question can ask for, with its path or type word as [`AskedFor`] says (own).
+/// An [`AskedFor`] whose path or type word has the form that is stated there (own).
 #[derive(Drop)]
 pub struct Asked {
     what: AskedFor,
@@ -85,8 +85,8 @@ impl Asked {
     }
 }
 
-// Why TARGET and `--subresource` ask for nothing: U2 if TARGET is empty or begins with `.`, U3 if a
-// URL has a subresource.
+// Why TARGET and `--subresource` are refused: U2 if TARGET is empty or begins with `.`, U3 if a URL
+// has a subresource.
 pub(crate) fn check_target(target: &str, subresource: &str) -> Result<(), QuestionFault>
     ensures accepted { OnOk result
         ((¬ LacksType target.now) × (¬ HasUrlSubresource target.now subresource.now)) }

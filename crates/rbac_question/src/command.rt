@@ -1,18 +1,18 @@
-//! What a command line says.
+//! Commands: what to do, with which options, and with which files.
 
 use crate::asked::Asked;
 use rbac_paths::Step;
 use rbac_terms::{Principal, Scope, Word};
 use rbac_token::Mark;
 
-/// Whether a verb may be used on what is asked for, in a namespace (own, after `kubectl auth
-/// can-i`).
+/// A question: whether a verb may be used on what TARGET asks for, in a namespace (own, after
+/// `kubectl auth can-i`).
 pub struct Question {
-    /// What `-n` names, or `default`; empty with `-A`.
+    /// The namespace: the name after `-n`, or `default` without one; empty with `-A`.
     pub namespace: Word,
-    /// Whether it is asked there even if the target is known to be outside all namespaces.
+    /// Whether to ask in that namespace even if the type is cluster-scoped.
     pub in_namespace: bool,
-    /// Never empty if the line was accepted.
+    /// The verb; never empty if the line was accepted.
     pub verb: Word,
     /// What TARGET and `--subresource` ask for.
     pub asked: Asked,
@@ -29,37 +29,39 @@ impl Drop for Question {
     }
 }
 
-/// Which holders `who-can` lists, and what of each.
+/// Which holders `who-can` lists, and what a line contains.
 #[derive(Drop, Clone, Copy)]
 pub struct HolderOptions {
-    /// Whether each line goes on with why: the role, its source, the rule and the subject.
+    /// Whether each line also has the role, its source, the rule and the subject.
     pub why: bool,
-    /// Whether a holder has a line for each binding that makes it one, and not only the first.
+    /// Whether a holder has a line for each binding that makes it a holder, and not only for the
+    /// first.
     pub every: bool,
-    /// Whether the bindings of all namespaces count, and not only those of the question's; with `-A`
-    /// it means nothing, so an action never has both.
+    /// Whether the bindings of all namespaces count, and not only those of the question's
+    /// namespace. `-A` overrides it, so an action never has both.
     pub anywhere: bool,
-    /// Whether a rule counts whatever its object names, so that the name in the question isn't looked
-    /// at. With a URL it changes nothing.
+    /// Whether a rule counts whatever its object names; the question's object name is then ignored.
+    /// For a URL it changes nothing.
     pub any_name: bool,
 }
 
 /// Which rows `matrix` lists.
 #[derive(Drop, Clone, Copy)]
 pub struct MatrixOptions {
-    /// Whether each binding that grants has a row of its own, and not only the first.
+    /// Whether a request has a row for each binding that grants it, and not only for the first.
     pub every: bool,
     /// Whether rows that have a namespace and a ClusterRoleBinding are left out.
     pub once: bool,
 }
 
-/// What the files of a `diff` that aren't those of `--before` say of the time after the change.
+/// How a `diff` gives the side after the change: what its files behind those of `--before` are.
 #[derive(Drop, Clone, Copy)]
 pub enum Change {
-    /// All that there is then: they are those of `--after`.
+    /// The whole side after: the files of `--after`.
     After,
-    /// What becomes of the files before: this many, those of `--without`, name objects that are taken
-    /// away, and then the others, those of `--with`, are put over what is left.
+    /// A change of the side before. This many files, which come first, are those of `--without`:
+    /// objects with the names of theirs are taken away. The others are those of `--with`: their
+    /// objects are put over what is left.
     Over(usize),
 }
 
@@ -78,12 +80,12 @@ pub enum Action {
     },
     /// Lists who is allowed what is asked.
     WhoCan {
-        /// Which holders count, and what is said of each.
+        /// Which holders are listed, and what a line contains.
         options: HolderOptions,
         /// What is asked.
         question: Question,
     },
-    /// Lists who comes to somebody who is allowed what is asked, step by step.
+    /// Lists who is allowed what is asked, or comes to it by taking over others, step by step.
     WaysTo {
         /// The steps that count: each at most once, in the order of the table.
         steps: Vec<Step>,
@@ -92,46 +94,45 @@ pub enum Action {
     },
     /// Lists the rules that a principal has.
     Rules {
-        /// Who is asked about: the user or the group of WHO, a user with the groups of `--groups`
-        /// and `--group`.
+        /// The principal that WHO names; a user has the groups of `--groups` and `--group`.
         principal: Principal,
-        /// Where, from `-n` and `-A`.
+        /// Where the rules count, from `-n` and `-A`.
         scope: Scope,
     },
     /// Lists everything that anyone may do.
     Matrix {
         /// Which rows are listed.
         options: MatrixOptions,
-        /// The mark of `--after`: only what comes after it is listed. Without `--every`, what comes
-        /// after its key.
+        /// The mark of `--after`: only rows after it are listed; without `--every`, only rows after
+        /// its key.
         after: Option<Mark>,
         /// The most rows to list, from `--limit`.
         limit: Option<u32>,
     },
-    /// Prints the universe that a matrix of the same files is about.
+    /// Prints the universe that `matrix` makes of the same files.
     Universe,
-    /// Lists what is wrong with the roles.
+    /// Lists the findings about what was loaded.
     Lint {
-        /// The codes whose findings are listed, by their numbers 1 to 7, in the order of `--only`; a
-        /// code may be there more than once. Without `--only` there is none, and all are listed.
+        /// The codes whose findings are listed, as numbers 1 to 7, in the order of `--only`; a code
+        /// may be repeated. `None` without `--only`: all findings are listed.
         only: Option<Vec<u8>>,
         /// Whether findings about Kubernetes' own objects are left out.
         skip_system: bool,
     },
-    /// Lists who can act as others, or come to do so.
+    /// Lists who can act as others, or come to do so, by which step of the table and where.
     Powers,
     /// Lists whom a principal can come to act as, step by step.
     Paths {
-        /// Who is asked about, as of `rules`.
+        /// The principal that WHO names, as for `rules`.
         principal: Principal,
         /// The steps that count: each at most once, in the order of the table.
         steps: Vec<Step>,
     },
     /// Lists what a change lets users do, and what it takes from them.
     Diff {
-        /// How many of the files tell what was before the change: the first ones.
+        /// How many files are those of `--before`; they come first.
         before: usize,
-        /// What the others tell.
+        /// What the other files are.
         change: Change,
     },
 }

@@ -11,7 +11,7 @@ use std::fmt;
 const BAD_STEP: &str = "U8 steps are impersonate, token, run, exec, secrets, nodes, bind, \
     escalate, certificates, webhooks";
 
-// The text of U9, which says what goes with what.
+// The text of U9, which states which options go together.
 const BAD_INDIRECT: &str = "U9 --indirect excludes --anywhere, --any-name, --every and --why; \
     --steps needs --indirect";
 
@@ -24,15 +24,17 @@ pub enum QuestionFault {
     UrlSubresource,
     /// U4: what follows `--after` isn't the token of any mark.
     BadToken,
-    /// U5: WHO isn't `u:` or `g:` with a name behind it, or `--groups` gives groups to a group.
+    /// U5: WHO isn't `u:` or `g:` with a name behind it, or a group is given `--groups` or
+    /// `--group`.
     BadPrincipal,
-    /// U6: a part of what follows `--only`, between its commas, isn't one of the words L1 to L7.
+    /// U6: a part between the commas of `--only` isn't one of the words L1 to L7.
     BadCode,
-    /// U7: a `diff` has neither `--after` nor `--with` or `--without`, or it has both.
+    /// U7: a `diff` has none of `--after`, `--with` and `--without`, or `--after` with one of the
+    /// others.
     BadChange,
-    /// U8: a part of what follows `--steps`, between its commas, isn't the word of a step.
+    /// U8: a part between the commas of `--steps` isn't the word of a step.
     BadStep,
-    /// U9: `who-can` has `--indirect` with `--why`, `--every`, `--anywhere` or `--any-name`, or it has
+    /// U9: `who-can` has `--indirect` with `--why`, `--every`, `--anywhere` or `--any-name`, or
     /// `--steps` without `--indirect`.
     BadIndirect,
     /// Out of memory.

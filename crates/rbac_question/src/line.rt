@@ -91,7 +91,7 @@ impl<'m, 'a> Model for CanILine<'m, 'a> {
 /// The parts of a `rules` line; the text of an option that isn't given is empty.
 #[derive(Drop)]
 pub struct RulesLine<'m, 'a> {
-    /// The parts that name who is asked about.
+    /// The parts that name the principal asked about.
     pub who: WhoLine<'m, 'a>,
     /// The name after `-n`.
     pub namespace: &'a str,
@@ -114,7 +114,7 @@ impl<'m, 'a> Model for RulesLine<'m, 'a> {
 /// The parts of a `matrix` line.
 #[derive(Drop)]
 pub struct MatrixLine<'a> {
-    /// Which of the options with these names are given.
+    /// Which of `--every` and `--once` are given.
     pub options: MatrixOptions,
     /// The token after `--after`.
     pub after: Option<&'a str>,
@@ -159,13 +159,13 @@ impl<'a> Model for LintLine<'a> {
 /// The parts of a `diff` line: how many files each of its options gives.
 #[derive(Drop, Clone, Copy)]
 pub struct DiffLine {
-    /// Those of `--before`.
+    /// How many files `--before` gives.
     pub before_files: usize,
-    /// Those of `--after`.
+    /// How many files `--after` gives.
     pub after_files: usize,
-    /// Those of `--without`.
+    /// How many files `--without` gives.
     pub without_files: usize,
-    /// Those of `--with`.
+    /// How many files `--with` gives.
     pub with_files: usize,
 }
 
@@ -197,7 +197,7 @@ fn scope_from(alloc: Global, all: bool, given: &str) -> Result<Scope, AllocError
     Ok(Scope::Namespace(Word::from_slice(alloc, given.as_bytes())?))
 }
 
-// The mark whose token this is.
+// The mark whose token this is: U4 if it is the token of none.
 fn mark_after(alloc: Global, token: &str) -> Result<Mark, QuestionFault>
     ensures mark { IfOk result (IsTokenOfMark token.now) }
     ensures refused { IfErr result (λ e. (e ≡ QuestionFault.NoMemory)
@@ -207,7 +207,7 @@ fn mark_after(alloc: Global, token: &str) -> Result<Mark, QuestionFault>
     Ok(mark_of_token(alloc, &token)?)
 }
 
-// The number of the code whose word this is, if it is one.
+// The number of the code that this word spells, or `None`.
 #[tactic(auto, unfolding(crate::specs::Lines::IsCodeWord))]
 fn code_of(word: &str) -> Option<u8>
     ensures { MatchOption result (¬ IsCodeWord word.now)
@@ -234,7 +234,7 @@ fn are_code_words(text: &str) -> bool
     text.split(',').all(|part| is_code_word(part))
 }
 
-// The codes whose words stand between commas, in order.
+// The codes that a text lists between commas, in order.
 fn codes_between(alloc: Global, text: &str) -> Result<Vec<u8>, AllocError>
     requires { All IsCodeWord (parts_between comma text.now) }
     ensures { IfOk result (λ numbers. AreCodesIn text.now numbers.items) }
@@ -262,8 +262,8 @@ fn codes_of(alloc: Global, text: &str) -> Result<Vec<u8>, QuestionFault>
     Ok(codes_between(alloc, text)?)
 }
 
-// Why a line asks no question: U2 if VERB or TARGET is empty, or TARGET begins with `.`; otherwise
-// U3 if a URL has a subresource.
+// Why a question is refused: U2 if VERB or TARGET is empty, or TARGET begins with `.`; otherwise U3
+// if a URL has a subresource.
 pub(crate) fn check_question(line: &QuestionLine<'_>) -> Result<(), QuestionFault>
     ensures answer { MatchResult result (λ _. AcceptsQuestion line.now) (RefusesQuestion line.now) }
     ensures lacking { LacksWord line.now → result ≡ Err QuestionFault.EmptyWord }
@@ -277,7 +277,7 @@ pub(crate) fn check_question(line: &QuestionLine<'_>) -> Result<(), QuestionFaul
     check_target(line.target, line.subresource)
 }
 
-// Why a `can-i` line is refused: U2 if USER is empty, otherwise as its question is.
+// Why a `can-i` line is refused: U2 if USER is empty, otherwise U2 or U3 for its question.
 fn check_can_i(line: &CanILine<'_, '_>) -> Result<(), QuestionFault>
     ensures answer { MatchResult result (λ _. AcceptsCanI line.now) (RefusesCanI line.now) }
     ensures lacking { RefusesCanI line.now QuestionFault.EmptyWord
@@ -304,7 +304,7 @@ pub(crate) fn question_of(alloc: Global, line: &QuestionLine<'_>) -> Result<Ques
     })
 }
 
-// What a `can-i` line means that isn't refused.
+// What an accepted `can-i` line means.
 fn can_i_from(alloc: Global, line: &CanILine<'_, '_>) -> Result<Action, QuestionFault>
     requires { AcceptsCanI line.now }
     ensures { MatchResult result (MeansCanI line.now) (λ e. e ≡ QuestionFault.NoMemory) }
@@ -324,7 +324,7 @@ impl Action {
     /// What a `can-i` line means.
     ///
     /// U2 if USER, VERB or TARGET is empty, or TARGET begins with `.`; otherwise U3 if a URL has a
-    /// subresource. Both are refused before anything is allocated.
+    /// subresource. Nothing is allocated before these refusals; memory may run out after them.
     pub fn can_i(alloc: Global, line: &CanILine<'_, '_>) -> Result<Self, QuestionFault>
         ensures answer { MatchResult result
             (λ action. AcceptsCanI line.now × MeansCanI line.now action)
@@ -340,9 +340,9 @@ impl Action {
 
     /// What a `rules` line means.
     ///
-    /// U5 if WHO isn't `u:` or `g:` with a name behind it, or a `--groups` or `--group` that isn't
-    /// empty comes with `g:`, even one without a name, as `,`. It is refused before anything is
-    /// allocated.
+    /// U5 if WHO isn't `u:` or `g:` with a name behind it, or if a `--groups` or `--group` that
+    /// isn't empty comes with `g:`, even one that gives no group, such as `,`. Nothing is allocated
+    /// before this refusal; memory may run out after it.
     pub fn rules(alloc: Global, line: &RulesLine<'_, '_>) -> Result<Self, QuestionFault>
         ensures answer { MatchResult result (MeansRules line.now) (RefusesRules line.now) }
         ensures unnamed { HasBadPrincipal line.now.who → result ≡ Err QuestionFault.BadPrincipal }
@@ -355,7 +355,8 @@ impl Action {
 
     /// What a `matrix` line means.
     ///
-    /// U4 if what follows `--after` isn't the token of any mark, with or without `--every`.
+    /// U4 if the text after `--after` isn't the token of any mark, with or without `--every`; or
+    /// out of memory.
     pub fn matrix(alloc: Global, line: &MatrixLine<'_>) -> Result<Self, QuestionFault>
         ensures { MatchResult result (MeansMatrix line.now) (RefusesMatrix line.now) }
     {
@@ -372,8 +373,9 @@ impl Action {
 
     /// What a `lint` line means.
     ///
-    /// U6 if a part of what follows `--only`, between its commas, isn't exactly one of the words L1 to
-    /// L7, such as an empty part, or the empty text. It is refused before anything is allocated.
+    /// U6 if a part between the commas of `--only` isn't exactly one of the words L1 to L7. So an
+    /// empty part is refused, and an empty text too. Nothing is allocated before this refusal;
+    /// memory may run out after it.
     pub fn lint(alloc: Global, line: &LintLine<'_>) -> Result<Self, QuestionFault>
         ensures answer { MatchResult result (MeansLint line.now) (RefusesLint line.now) }
         ensures miscoded { HasBadCode line.now.only → result ≡ Err QuestionFault.BadCode }
@@ -390,8 +392,8 @@ impl Action {
 
     /// What a `diff` line means.
     ///
-    /// U7 if it has neither `--after` nor `--with` or `--without`, or if it has `--after` and one of
-    /// these.
+    /// U7 if the line has none of `--after`, `--with` and `--without`, or `--after` with one of the
+    /// others. Allocates nothing.
     pub fn diff(line: &DiffLine) -> Result<Self, QuestionFault>
         ensures { MatchResult result (MeansDiff line.now) (RefusesDiff line.now) }
     {

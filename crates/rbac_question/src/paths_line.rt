@@ -14,7 +14,7 @@ use std::marker::Model;
 /// The parts of a `paths` line.
 #[derive(Drop)]
 pub struct PathsLine<'m, 'a> {
-    /// The parts that name who is asked about.
+    /// The parts that name the principal asked about.
     pub who: WhoLine<'m, 'a>,
     /// The words of steps after `--steps`, not yet split.
     pub steps: Option<&'a str>,
@@ -35,9 +35,9 @@ impl<'m, 'a> Model for PathsLine<'m, 'a> {
 impl Action {
     /// What a `paths` line means.
     ///
-    /// U5 as for a `rules` line; otherwise U8 if a part of what follows `--steps`, between its
-    /// commas, isn't exactly the word of a step, such as an empty part, or the empty text. Both are
-    /// refused before anything is allocated.
+    /// U5 as for a `rules` line; otherwise U8 if a part between the commas of `--steps` isn't
+    /// exactly the word of a step. So an empty part is refused, and an empty text too. Nothing is
+    /// allocated before these refusals; memory may run out after them.
     pub fn paths(alloc: Global, line: &PathsLine<'_, '_>) -> Result<Self, QuestionFault>
         ensures answer { MatchResult result (MeansPaths line.now) (RefusesPaths line.now) }
         ensures unnamed { HasBadPrincipal line.now.who → result ≡ Err QuestionFault.BadPrincipal }

@@ -31,7 +31,7 @@ fn are_step_words(text: &str) -> bool
     text.split(',').all(|part| is_step_word(part))
 }
 
-// Whether what follows `--steps`, if it is given, has a word of a step in each part between commas.
+// Whether each part between the commas of `--steps` is the word of a step; true without `--steps`.
 pub(crate) fn names_steps(given: Option<&str>) -> bool
     ensures { IsTrue result ↔ AreStepWords (option_map (λ t. t.now) given.entry) }
 {
@@ -48,7 +48,7 @@ fn is_named(text: &str, step: Step) -> bool
     text.split(',').any(|part| step.word() == part.as_bytes())
 }
 
-// Those of these steps whose words stand between commas, in their order.
+// Those of the given steps that a text names between commas, in the order of the given steps.
 fn named_among(alloc: Global, steps: &[Step], text: &str) -> Result<Vec<Step>, AllocError>
     ensures { IfOk result (λ named. named.items ≡ filter (names_step text.now) steps.now) }
 {
@@ -61,7 +61,7 @@ fn named_among(alloc: Global, steps: &[Step], text: &str) -> Result<Vec<Step>, A
     Ok(named)
 }
 
-// The steps that count (own): those that `--steps` names, or all of the table.
+// The steps that count (own): those that `--steps` names, or without it all of the table.
 pub(crate) fn steps_from(alloc: Global, given: Option<&str>) -> Result<Vec<Step>, AllocError>
     ensures { IfOk result
         (λ steps. steps.items ≡ steps_meant (option_map (λ t. t.now) given.entry)) }

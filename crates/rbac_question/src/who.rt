@@ -1,4 +1,4 @@
-//! The parts of a line that name somebody.
+//! The parts of a line that name a principal.
 
 ghost use Rattle.std.specs.Prelude.{◌≡◌, ◌≢◌, ◌++◌, ◌∷◌, ◌↔◌, [], All, true, filter};
 ghost use Rattle.std.specs.Prelude.{IfOk, OnOk, MatchOption, MatchResult, map, option_map};
@@ -12,16 +12,15 @@ use rbac_terms::{MEMBER_PREFIX, ModelFault, Principal, USER_PREFIX, Word, Words}
 use std::alloc::{AllocError, Global};
 use std::marker::Model;
 
-/// The parts of a line that name somebody; the text of an option that isn't given is empty.
+/// The parts of a line that name a principal; the text of an option that isn't given is empty.
 #[derive(Drop)]
 pub struct WhoLine<'m, 'a> {
-    /// WHO: a principal's key, `u:` and a user's name or `g:` and a group's. It is taken as it is,
-    /// like the name after `--as`: a backslash is a backslash, also where a line of output would
-    /// print it as `\\`.
+    /// WHO: a principal's key, `u:` and a user's name or `g:` and a group's. WHO is taken as it is,
+    /// like the name after `--as`: a backslash is a backslash, although output prints it as `\\`.
     pub key: &'a str,
     /// The names after `--groups`, not yet split.
     pub groups: &'a str,
-    /// The name after each `--group`, in order, if it is given.
+    /// The name after each `--group`, in order; `None` if the option isn't given.
     pub whole_groups: Option<&'m [&'a str]>,
 }
 
@@ -38,8 +37,8 @@ impl<'m, 'a> Model for WhoLine<'m, 'a> {
     } };
 }
 
-// The groups that `--groups` and `--group` give: the parts of the first between commas, and then each
-// of the others whole, in order, without those that are empty (own).
+// The groups that `--groups` and `--group` give: the parts of `--groups` between commas, and then
+// each `--group` whole, in order. Empty ones are dropped (own).
 fn groups_from(alloc: Global, text: &str, whole: Option<&[&str]>) -> Result<Words, AllocError>
     ensures { IfOk result (λ groups. groups ≡ groups_given text.now
         (names_in (option_map (λ names. map (λ n. n.now) names.now) whole.entry))) }
@@ -123,7 +122,7 @@ fn member_from(alloc: Global, group: &[u8]) -> Result<Principal, QuestionFault>
     }
 }
 
-// The name behind the mark of a principal's key; none if the key has another mark or ends there.
+// The name behind the mark of a principal's key; `None` if the key has another mark or no name.
 fn name_behind<'a>(mark: &[u8], key: &'a str) -> Option<&'a [u8]>
     ensures { MatchOption result
         ((name : Text) → key.now ≡ mark.now ++ name → name ≡ [])
@@ -154,7 +153,7 @@ fn names_none(names: Option<&[&str]>) -> bool
     }
 }
 
-// Whether no groups are given: each `--groups` and `--group` is empty, or isn't there.
+// Whether no groups are given: each `--groups` and `--group` is empty or missing.
 fn lacks_groups(who: &WhoLine<'_, '_>) -> bool
     ensures { (result ≡ true)
         ↔ ((who.now.groups ≡ []) × All (λ whole. whole ≡ []) who.now.whole_groups) }
@@ -162,7 +161,7 @@ fn lacks_groups(who: &WhoLine<'_, '_>) -> bool
     who.groups.is_empty() && names_none(who.whole_groups)
 }
 
-// The principal that WHO, `--groups` and `--group` name: U5 if there is none.
+// The principal that WHO, `--groups` and `--group` name: U5 if they name none.
 pub(crate) fn principal_of(alloc: Global, who: &WhoLine<'_, '_>) -> Result<Principal, QuestionFault>
     ensures answer { MatchResult result (NamesPrincipal who.now) (RefusesWho who.now) }
     ensures unnamed { HasBadPrincipal who.now → result ≡ Err QuestionFault.BadPrincipal }
@@ -176,7 +175,7 @@ pub(crate) fn principal_of(alloc: Global, who: &WhoLine<'_, '_>) -> Result<Princ
     }
 }
 
-// Why WHO, `--groups` and `--group` name nobody: U5.
+// Refuses parts that name no principal: U5.
 pub(crate) fn check_who(who: &WhoLine<'_, '_>) -> Result<(), QuestionFault>
     ensures answer { MatchResult result (λ _. ¬ HasBadPrincipal who.now)
         (λ e. (e ≡ QuestionFault.BadPrincipal) × HasBadPrincipal who.now) }

@@ -19,7 +19,7 @@ pub struct WhoCanLine<'a> {
     pub indirect: bool,
     /// The words of steps after `--steps`, not yet split.
     pub steps: Option<&'a str>,
-    /// Which of the options with these names are given.
+    /// Which of `--why`, `--every`, `--anywhere` and `--any-name` are given.
     pub options: HolderOptions,
     /// The parts that ask the question.
     pub question: QuestionLine<'a>,
@@ -39,7 +39,7 @@ impl<'a> Model for WhoCanLine<'a> {
     } };
 }
 
-// The options of `who-can` that are meant: `-A` wins over `--anywhere` too (own).
+// The options that a `who-can` line means: `-A` overrides `--anywhere` too (own).
 fn options_from(all: bool, given: HolderOptions) -> HolderOptions
     ensures { result ≡ options_meant all given }
 {
@@ -56,8 +56,8 @@ fn has_none(options: HolderOptions) -> bool
     !options.why && !options.every && !options.anywhere && !options.any_name
 }
 
-// Whether the options go together: with `--indirect` none of those of holders is given, and without
-// it no `--steps`.
+// Whether the options go together: `--indirect` excludes the options about holders, and `--steps`
+// needs `--indirect`.
 fn go_together(line: &WhoCanLine<'_>) -> bool
     ensures { IsTrue result ↔ GoTogether line.now }
 {
@@ -67,8 +67,8 @@ fn go_together(line: &WhoCanLine<'_>) -> bool
     line.steps.is_none()
 }
 
-// Why a `who-can` line is refused: as its question is, otherwise U8 if `--steps` has a part that
-// isn't the word of a step, otherwise U9 if the options don't go together.
+// Why a `who-can` line is refused: U2 or U3 for its question; otherwise U8 if a part of `--steps`
+// isn't the word of a step; otherwise U9 if the options don't go together.
 fn check_who_can(line: &WhoCanLine<'_>) -> Result<(), QuestionFault>
     ensures answer { MatchResult result (λ _. AcceptsWhoCan line.now) (RefusesWhoCan line.now) }
     ensures lacking { LacksWord line.now.question → result ≡ Err QuestionFault.EmptyWord }
@@ -89,7 +89,7 @@ fn check_who_can(line: &WhoCanLine<'_>) -> Result<(), QuestionFault>
     Ok(())
 }
 
-// What a `who-can` line means that isn't refused.
+// What an accepted `who-can` line means.
 fn who_can_from(alloc: Global, line: &WhoCanLine<'_>) -> Result<Action, QuestionFault>
     requires { AcceptsWhoCan line.now }
     ensures { MatchResult result (MeansWhoCan line.now) (λ e. e ≡ QuestionFault.NoMemory) }
@@ -109,9 +109,9 @@ impl Action {
     /// What a `who-can` line means.
     ///
     /// U2 if VERB or TARGET is empty, or TARGET begins with `.`; otherwise U3 if a URL has a
-    /// subresource; otherwise U8 for what follows `--steps`, as for a `paths` line; otherwise U9 if
-    /// `--indirect` is given with `--why`, `--every`, `--anywhere` or `--any-name`, or `--steps`
-    /// without `--indirect`. All are refused before anything is allocated.
+    /// subresource; otherwise U8 for `--steps`, as for a `paths` line; otherwise U9 if `--indirect`
+    /// is given with `--why`, `--every`, `--anywhere` or `--any-name`, or `--steps` without
+    /// `--indirect`. Nothing is allocated before these refusals; memory may run out after them.
     pub fn who_can(alloc: Global, line: &WhoCanLine<'_>) -> Result<Self, QuestionFault>
         ensures answer { MatchResult result
             (λ action. AcceptsWhoCan line.now × MeansWhoCan line.now action)

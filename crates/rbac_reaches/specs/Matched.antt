@@ -1,4 +1,4 @@
--- The order of targets, and those of one stem.
+-- The order of targets, and the targets of one stem.
 use Rattle.std.specs.Prelude.{◌≡◌, ℕ, ◌+◌, ◌<◌, ◌≤◌, ◌↔◌, List, [], ◌∷◌, Contains, Option}
 use Rattle.std.specs.Prelude.{Some, None, IfSome, length, map, slice_get}
 use Rattle.std.specs.declared.cmp.Ordering.TheVariants.{Less}
@@ -38,8 +38,8 @@ pub record AreOneStem (ts : List What) (start end : ℕ) : Type 0 where
   pub alike : AreOfStem None ts start end
   pub alone : (t : What) → slice_get ts start ≡ Some t → IsUrl t → end ≡ start + 1
 
--- the targets from the first place up to the second form stems, one after the other, each given by
--- where it ends
+-- the targets from place `from` up to place `to` form stems, one after the other, each given by its
+-- end
 abbrev pub AreStemEnds : List What → ℕ → ℕ → List ℕ → Type 0
 AreStemEnds ts from to [] = from ≡ to
 AreStemEnds ts from to (end ∷ ends) = AreOneStem ts from end × AreStemEnds ts end to ends

@@ -14,8 +14,8 @@ abbrev pub span_places : List Span → List ℕ
 span_places [] = []
 span_places (s ∷ ss) = places_from s.start (s.end - s.start) ++ span_places ss
 
--- each run says how many places come before it, if `before` come before them all; in the end there
--- are `len`, none above a million
+-- each run has the count of the places before it, which is `before` for the first run; `len` is
+-- this count after the last run, and each place is below a million
 abbrev pub IsCounted : ℕ → List Span → ℕ → Type 0
 IsCounted before [] len = before ≡ len
 IsCounted before (s ∷ ss) len = (s.before ≡ before) × (s.start < s.end) × (s.end ≤ most_targets)

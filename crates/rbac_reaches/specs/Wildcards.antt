@@ -1,4 +1,4 @@
--- What the wildcards in a rule's words stand for, as lists in which it is looked up.
+-- The parts of a rule's words that have wildcards, as lists for look-up.
 use Rattle.std.specs.Prelude.{◌≡◌, ◌↔◌, ◌⊎◌, ◌++◌, List, Any, Contains, AllPairs, codes}
 use Rattle.std.specs.List.Sorted.{IsSorted}
 use Rattle.std.specs.declared.cmp.Ordering.TheVariants.{Less}
@@ -10,7 +10,7 @@ use Rattle.rbac_terms.specs.Matching.{IsBeforeStars}
 abbrev pub IsForEvery : Text → Text → Type 0
 IsForEvery w s = w ≡ codes "*/" ++ s
 
--- the parts of the words, by what is a part of a word
+-- the parts of the words, where IsPart decides what is a part of a word
 abbrev pub ArePartsOf : (Text → Text → Type 0) → List Text → List Text → Type 0
 ArePartsOf IsPart words parts = (p : Text) → Contains parts p ↔ Any (λ w. IsPart w p) words
 
@@ -27,8 +27,8 @@ pub record AreSubresources (words subresources : List Text) : Type 0 where
 abbrev pub AreApart : List Text → Type 0
 AreApart texts = AllPairs (λ a b. (text_cmp a b ≡ Less) × (¬ BeginsWith b a)) texts
 
--- some of the prefixes tell which paths the words that end in stars match: those that begin with
--- what comes before the stars
+-- a text begins with one of the prefixes exactly if it begins with the part before the stars of a
+-- word that ends in stars; none of the prefixes begins with another
 pub record AreUrlPrefixes (words prefixes : List Text) : Type 0 where
   pub apart : AreApart prefixes
   pub exact : (x : Text) → Any (BeginsWith x) prefixes

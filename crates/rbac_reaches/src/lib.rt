@@ -1,4 +1,5 @@
-//! Which targets of a universe the grants of a policy reach, and how much of that was read.
+//! The reaches of a policy's grants: which targets of a universe their rules match, and how many
+//! entries of reaches were read.
 #![tactic(auto)]
 
 mod matches;

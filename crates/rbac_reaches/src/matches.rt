@@ -1,11 +1,12 @@
-//! The targets that a rule matches, verbs aside, stem by stem: a rule is asked about each stem, and
-//! where it has names, they are looked up among the stem's.
+//! The targets that a rule matches, verbs aside, stem by stem. The rule is asked about each stem;
+//! if it has object names, it is asked about the names of the stem's targets too.
 
 ghost use Rattle.std.specs.Prelude.{◌≡◌, ◌<◌, ◌≤◌, ℕ, Some, Contains, IfOk, OnOk, length};
 ghost use Rattle.std.specs.Prelude.{slice_get};
 ghost use Rattle.rbac_model.specs.Lists.{IsAscendingBy};
 ghost use Rattle.rbac_terms.specs.Targets.{What, name_of};
-ghost use Rattle.rbac_reaches.specs.Matched.{what_texts, AreStemEnds, IsByName, AreOneStem, IsWhole};
+ghost use Rattle.rbac_reaches.specs.Matched.{what_texts, AreStemEnds, IsByName, AreOneStem};
+ghost use Rattle.rbac_reaches.specs.Matched.{IsWhole};
 ghost use Rattle.rbac_reaches.specs.Reaches.{IsReach, IsReachBelow};
 ghost use Rattle.rbac_model.specs.Universes.{most_targets};
 
@@ -31,7 +32,7 @@ pub(crate) fn matched(
     places_by_stem(alloc, &rule, targets, ends)
 }
 
-// The same, stem by stem, with a rule whose words are looked up.
+// The places of the targets that the rule matches, stem by stem.
 fn places_by_stem(
     alloc: Global,
     rule: &OrderedRule<'_>,
@@ -77,7 +78,7 @@ fn push_stem(
     Ok(())
 }
 
-// Adds all of these places or none of them: the rule is asked about the first.
+// Adds all of these places or none of them: the rule is asked about the first target.
 fn push_whole(
     spans: &mut Spans,
     rule: &OrderedRule<'_>,
@@ -97,7 +98,7 @@ fn push_whole(
     Ok(())
 }
 
-// Adds those of these places whose targets' names the rule has.
+// Adds the places whose target has one of the rule's names.
 fn push_named(
     spans: &mut Spans,
     rule: &OrderedRule<'_>,
@@ -124,7 +125,8 @@ fn push_named(
     Ok(())
 }
 
-// A place after `at`, and at most `end`: the rule has no name of the targets from `at` up to it.
+// A place after `at`, and at most `end`: no target from `at` up to this place has one of the rule's
+// names.
 fn next_named(rule: &OrderedRule<'_>, targets: &[Target], at: usize, end: usize) -> usize
     requires within { (at < end) × (end ≤ length targets.now) }
     requires ordered { IsAscendingBy what_texts targets.now }

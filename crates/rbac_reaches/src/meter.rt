@@ -1,4 +1,4 @@
-//! How much was read.
+//! The count of entries that were read.
 
 ghost use Rattle.std.specs.Prelude.{◌≡◌};
 ghost use Rattle.rbac_reaches.specs.Reaches.{raised};

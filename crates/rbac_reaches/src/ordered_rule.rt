@@ -14,8 +14,8 @@ use rbac_terms::{Rule, Target, Word, is_among, sorted_copy};
 use std::alloc::{AllocError, Global};
 use std::marker::Model;
 
-// A rule, with its words in byte order and what its wildcards stand for, so that what matches a
-// target is found by halving.
+// A rule, with its words, and the parts of words that have wildcards, in byte order, for binary
+// search.
 #[derive(Drop)]
 pub(crate) struct OrderedRule<'a> {
     rule: &'a Rule,

@@ -17,8 +17,8 @@ use std::marker::Model;
 use std::rc::Rc;
 
 /// The places, ascending, of the targets of a universe that a grant's rule matches, verbs aside: at
-/// most a million. Neighbours are kept as one run, and the reaches of grants by the same rule share
-/// what they hold.
+/// most a million. Neighbouring places are kept as one run, and the reaches of grants by the same
+/// rule share their places.
 #[derive(Drop)]
 pub struct Reach {
     places: Rc<Spans>,
@@ -75,7 +75,7 @@ impl Reach {
         })
     }
 
-    /// How many places there are. Doesn't allocate.
+    /// How many places the reach has. Doesn't allocate.
     pub fn len(&self) -> usize
         ensures len { result ≡ length self.now }
         ensures few { length self.now ≤ most_targets }
@@ -95,8 +95,8 @@ impl Reach {
     }
 }
 
-/// The reach of each grant, in order of the grants' numbers. What a rule matches is worked out
-/// once, for all grants by it. X1 NoMemory if it runs out of memory.
+/// The reach of each grant, in order of the grants' numbers. What a rule matches is computed once
+/// for all grants by this rule. X1 NoMemory if it runs out of memory.
 pub fn reaches_of(
     alloc: Global,
     index: &Index<'_>,

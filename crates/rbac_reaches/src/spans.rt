@@ -9,7 +9,7 @@ ghost use Rattle.rbac_model.specs.Universes.{most_targets};
 use std::alloc::{AllocError, Global};
 use std::marker::Model;
 
-// The places from `start` up to `end`; `before` is how many the runs before this one hold.
+// The places from `start` up to `end`; `before` is how many places the runs before this one have.
 #[derive(Clone, Copy)]
 pub(crate) struct Span {
     pub(crate) start: u32,
@@ -46,7 +46,7 @@ impl Spans {
         }
     }
 
-    // Adds the places from `start` up to `end` after the others: they lengthen the last run if it
+    // Adds the places from `start` up to `end` after the others, and lengthens the last run if it
     // ends at `start`.
     pub(crate) fn push(&mut self, start: u32, end: u32) -> Result<(), AllocError>
         requires some { start < end }

@@ -1,5 +1,5 @@
-//! The stems of targets: targets are in order, those with the same API group and resource text
-//! together.
+//! The stems of targets. Targets are in order, so those with the same API group and resource text
+//! are next to each other.
 
 ghost use Rattle.std.specs.Prelude.{◌+◌, ◌<◌, ◌≤◌, ◌↔◌, IfOk, IsTrue, length, option_copied};
 ghost use Rattle.rbac_model.specs.Lists.{IsAscendingBy};
@@ -48,8 +48,9 @@ pub(crate) fn is_between(text: &Word, after: &Word, before: Option<&Word>) -> bo
     }
 }
 
-// The end of the run of targets after the one at this place that have its API group and resource
-// text, and a name before `before` if that is given: found by steps that double, and then halve.
+// The end of the run of targets that begins at this place. The targets after the first have its API
+// group and resource text, and names before `before` if that is given. The search takes steps that
+// double, and then halve.
 pub(crate) fn run_end(targets: &[Target], at: usize, before: Option<&Word>) -> usize
     requires within { at < length targets.now }
     requires ordered { IsAscendingBy what_texts targets.now }
@@ -65,8 +66,8 @@ pub(crate) fn run_end(targets: &[Target], at: usize, before: Option<&Word>) -> u
     run_end_within(targets, at, end, step, before)
 }
 
-// The end of a run, as `run_end` finds it, if the run is known to reach `reached`, and to end
-// within `within` places after it.
+// The end of a run, as in `run_end`, where the run reaches `reached` and ends within `within`
+// places after it.
 fn run_end_within(
     targets: &[Target],
     at: usize,

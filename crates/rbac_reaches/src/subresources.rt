@@ -21,7 +21,7 @@ pub(crate) fn subresources_of(alloc: Global, words: &[Word]) -> Result<Vec<Word>
     Ok(subresources)
 }
 
-// Adds the subresource of a word like `*/log`; of any other word nothing.
+// Adds the subresource of a word like `*/log`; adds nothing for any other word.
 fn push_subresource(
     alloc: Global,
     subresources: &mut Vec<Word>,

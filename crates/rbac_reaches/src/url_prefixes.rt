@@ -1,4 +1,4 @@
-//! The prefixes of a rule's URL words: what comes before the stars at the end of one.
+//! The prefixes of a rule's URL words: the part of a word before the stars at its end.
 
 ghost use Rattle.std.specs.Prelude.{◌≡◌, ◌↔◌, Any, IfOk, IsTrue, OnOk, nat_eq};
 ghost use Rattle.std.specs.List.{starts_with};
@@ -9,8 +9,8 @@ ghost use Rattle.rbac_reaches.specs.Wildcards.{AddsPart, AreApart, ArePartsOf, A
 use rbac_terms::{Word, before_stars};
 use std::alloc::{AllocError, Global};
 
-// The prefixes of the words that end in stars, in byte order. None of them begins with another one:
-// a path that begins with the longer one begins with the shorter one too.
+// The prefixes of the words that end in stars, in byte order. A prefix that begins with another one
+// is left out, because a path that begins with the longer one begins with the shorter one too.
 pub(crate) fn url_prefixes_of(alloc: Global, words: &[Word]) -> Result<Vec<Word>, AllocError>
     ensures { IfOk result (λ v. AreUrlPrefixes words.now v.items) }
 {
@@ -20,7 +20,7 @@ pub(crate) fn url_prefixes_of(alloc: Global, words: &[Word]) -> Result<Vec<Word>
     Ok(prefixes)
 }
 
-// The prefixes of the words that end in stars, in their order.
+// The prefixes of the words that end in stars, in the order of the words.
 fn all_prefixes_of(alloc: Global, words: &[Word]) -> Result<Vec<Word>, AllocError>
     ensures { IfOk result (λ v. ArePartsOf IsBeforeStars words.now v.items) }
 {
@@ -31,7 +31,7 @@ fn all_prefixes_of(alloc: Global, words: &[Word]) -> Result<Vec<Word>, AllocErro
     Ok(prefixes)
 }
 
-// Adds the prefix of a word that ends in stars; of any other word nothing.
+// Adds the prefix of a word that ends in stars; adds nothing for any other word.
 fn push_prefix(alloc: Global, prefixes: &mut Vec<Word>, word: &Word) -> Result<(), AllocError>
     ensures { OnOk result
         (AddsPart IsBeforeStars word.now prefixes.old.items prefixes.new.items) }
@@ -49,7 +49,8 @@ fn starts_with(text: &Word, prefix: &Word) -> bool
     text.as_bytes().starts_with(prefix.as_bytes())
 }
 
-// Whether the path begins with one of these: then it begins with the last that isn't after it.
+// Whether the path begins with one of these prefixes. If it does, it begins with the last one that
+// doesn't come after the path.
 pub(crate) fn begins_with_some(prefixes: &[Word], path: &Word) -> bool
     requires { AreApart prefixes.now }
     ensures { IsTrue result ↔ Any (BeginsWith path.now) prefixes.now }

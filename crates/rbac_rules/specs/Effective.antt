@@ -11,8 +11,8 @@ use Rattle.rbac_model.specs.Lists.{IsFirstAt}
 use Rattle.rbac_model.specs.Policies.{PolicyView, GrantView, BindingNames, Live, Allows, IsWhy}
 use Rattle.rbac_model.specs.Scopes.{MayBeLiveIn}
 
--- somebody has the rule of a grant: the grant's binding may be live where rules are asked for, and
--- names them (Using RBAC Authorization)
+-- somebody has the rule of a grant: the grant's binding may be live in the scope, and names them
+-- (Using RBAC Authorization)
 abbrev pub Has : Who → Scope → GrantView → Type 0
 Has who scope g = MayBeLiveIn scope g.binding.namespace × BindingNames g.binding who
 
@@ -38,7 +38,7 @@ AreRulesBy who scope (g ∷ gs) xs =
     × ((x : RuleView) × (rest : List RuleView) × (x.grant ≡ g) × IsByFirstSubject who x
     × AreRulesBy who scope gs rest × (xs ≡ x ∷ rest)))
 
--- the effective rules of somebody, where they are asked for: those by the policy's grants
+-- the effective rules of somebody in a scope: those by the policy's grants
 abbrev pub AreEffective : PolicyView → Who → Scope → List RuleView → Type 0
 AreEffective p who scope xs = AreRulesBy who scope p.grants xs
 
@@ -48,13 +48,14 @@ abbrev pub AllowsThere : Text → Text → What → RuleView → Type 0
 AllowsThere namespace verb t x = Live x.grant.binding.namespace namespace t
     × RuleAllows x.grant.rule.rule verb t
 
--- the rules decide what somebody may do in that namespace: it is what one of them allows there
+-- the rules decide what somebody may do in that namespace: exactly what one of the rules allows
+-- there
 abbrev pub Decide : PolicyView → Who → Text → List RuleView → Type 0
 Decide p who namespace xs = (verb : Text) (t : What)
     → Allows p.held who namespace verb t ↔ Any (AllowsThere namespace verb t) xs
 
--- the rules explain what somebody may do in that namespace: why they may is the first of the rules
--- that allows it there, with its subject
+-- the rules explain why somebody may do something in that namespace: the reason is the first of the
+-- rules that allows it there, with its subject
 abbrev pub Explain : PolicyView → Who → Text → List RuleView → Type 0
 Explain p who namespace xs = (verb : Text) (t : What) (i : ℕ) (x : RuleView)
     → IsFirstAt (AllowsThere namespace verb t) xs i x

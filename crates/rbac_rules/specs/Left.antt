@@ -10,12 +10,12 @@ use Rattle.rbac_model.specs.Sources.{grant_of}
 use Rattle.rbac_rules.specs.Effective.{RuleView, AreRulesBy}
 use Rattle.rbac_rules.specs.declared.effective.EffectiveRule.{EffectiveRule}
 
--- the rule that is shown
+-- what contracts see of an effective rule
 abbrev pub rule_shown : EffectiveRule → RuleView
 rule_shown x = record { grant = grant_of x.grant; subject_place = x.subject_place }
 
--- what contracts see of an iteration: whose rules, where they are asked for, the policy's bindings,
--- and the grants that haven't been passed
+-- what contracts see of an iteration: whose rules, in which scope, the policy's bindings, and the
+-- grants that haven't been passed
 pub record LeftView : Type 0 where
   pub who : Who
   pub scope : Scope
@@ -26,7 +26,8 @@ pub record LeftView : Type 0 where
 abbrev pub AreRulesLeft : LeftView → List RuleView → Type 0
 AreRulesLeft v xs = AreRulesBy v.who v.scope v.grants xs
 
--- x was the first rule that was left, with the place of its binding, and the others are left now
+-- x was the first rule that was left, with the place of its binding, and the other rules are left
+-- now
 pub record IsTaken (old new : LeftView) (x : EffectiveRule) : Type 0 where
   pub who : new.who ≡ old.who
   pub scope : new.scope ≡ old.scope

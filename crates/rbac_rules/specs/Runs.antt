@@ -1,4 +1,4 @@
--- The grants of one binding, of which somebody has the rules.
+-- The grants of one binding whose rules somebody has.
 use Rattle.std.specs.Prelude.{◌≡◌, ℕ, ◌+◌, ◌<◌, ◌≤◌, ◌↔◌, Some, slice_get, length}
 use Rattle.rbac_terms.specs.Principals.{Who}
 use Rattle.rbac_terms.specs.declared.scope.Scope.{Scope}
@@ -6,7 +6,7 @@ use Rattle.rbac_model.specs.Policies.{PolicyView, GrantView, IsOfBinding}
 use Rattle.rbac_rules.specs.Effective.{Has, IsByFirstSubject}
 use Rattle.rbac_rules.specs.declared.run.Run.{Run}
 
--- somebody has the rule of the grant with that number, which is of the binding at that place
+-- somebody has the rule of the grant with that number, which belongs to the binding at that place
 abbrev pub HasAt : PolicyView → Who → Scope → ℕ → ℕ → Type 0
 HasAt p who scope n at = IsOfBinding p n at
     × ((g : GrantView) × (slice_get p.grants n ≡ Some g) × Has who scope g)
@@ -25,7 +25,7 @@ pub record IsEffectiveRun (p : PolicyView) (who : Who) (scope : Scope) (r : Run)
       × IsByFirstSubject who (record { grant = g; subject_place = r.subject_place })
   pub ends : (n at : ℕ) → IsOfBinding p n at → (n < r.end) ↔ (at < r.next_place)
 
--- all grants of the binding at that place, of which somebody has the rules
+-- all grants of the binding at that place, whose rules somebody has
 pub record IsRunOf (p : PolicyView) (who : Who) (scope : Scope) (place : ℕ)
     (r : Run) : Type 0 where
   pub run : IsEffectiveRun p who scope r
@@ -33,12 +33,12 @@ pub record IsRunOf (p : PolicyView) (who : Who) (scope : Scope) (place : ℕ)
   pub next : r.next_place ≡ place + 1
   pub starts : (n at : ℕ) → IsOfBinding p n at → (n < r.no) ↔ (at < place)
 
--- all grants of the first binding, from that place on, of which somebody has the rules
+-- all grants of the first binding, from that place on, whose rules somebody has
 abbrev pub IsRunFrom : PolicyView → Who → Scope → ℕ → Run → Type 0
 IsRunFrom p who scope from r = (place : ℕ) × (from ≤ place) × IsRunOf p who scope place r
     × HasNone p who scope from place
 
--- a run with a grant that is left; somebody has the rule of none of the grants that are passed over
+-- a run that has grants left; somebody has the rules of none of the grants that are passed over
 pub record IsNextEffectiveRun (p : PolicyView) (who : Who) (scope : Scope) (from : ℕ)
     (r : Run) : Type 0 where
   pub run : IsEffectiveRun p who scope r

@@ -13,8 +13,7 @@ use std::marker::Model;
 pub struct EffectiveRule<'a> {
     /// The grant that brings the rule.
     pub grant: Grant<'a>,
-    /// The place, among the subjects of the grant's binding, of the first one that names who has
-    /// the rule, from 0.
+    /// The place, from 0, of the first subject of the grant's binding that names who has the rule.
     pub subject_place: usize,
 }
 
@@ -44,11 +43,11 @@ impl<'a> Model for EffectiveRules<'a> {
     ghost invariant = { λ it. IsEffectiveRun it.policy.now it.who.now it.scope.now it.run };
 }
 
-/// The rules that a user with the groups given and implied, or a member of one group, has where
-/// they are asked for (Using RBAC Authorization): one for each grant whose binding may be live
-/// there and names them, in order of bindings, then of their rules (own). A dangling binding
-/// brings none, and an aggregated role those that it gathers. Neither this nor the iteration
-/// allocates.
+/// The rules that a principal has in this scope (Using RBAC Authorization): one for each grant
+/// whose binding may be live there and names the principal, in order of bindings, then of their
+/// rules (own). Bindings name a user also by the given and the implied groups. A binding whose role
+/// isn't held brings no rules, and an aggregated role brings those that it gathers. Neither the
+/// call nor the iteration allocates.
 pub fn effective_rules<'a>(
     policy: &'a Policy,
     who: &'a Principal,

@@ -1,4 +1,4 @@
-//! The rules that somebody has: of all bindings that name them, the rules that these bring.
+//! The rules that somebody has, from all bindings that name them.
 #![tactic(auto)]
 
 mod effective;

@@ -1,4 +1,4 @@
-//! The grants of one binding, of which somebody has the rules.
+//! The grants of one binding whose rules somebody has.
 
 ghost use Rattle.std.specs.Prelude.{ℕ, ◌≤◌, ◌<◌, ◌+◌, MatchOption, length};
 ghost use Rattle.rbac_model.specs.Policies.{IsPolicy};
@@ -9,7 +9,7 @@ use rbac_model::{Policy, may_be_live_in, naming_place};
 use rbac_terms::{Principal, Scope};
 
 // The grants of one binding that are left, from number `no` up to `end`, the place of the first
-// subject that names who asks, and the place of the binding after it.
+// subject that names who asks, and the place after the binding's.
 #[derive(Clone, Copy)]
 pub(crate) struct Run {
     pub(crate) no: u32,
@@ -43,7 +43,7 @@ fn run_of(policy: &Policy, who: &Principal, scope: &Scope, place: usize) -> Opti
     })
 }
 
-// The run that the next rule is of, from this one on.
+// The run of the next rule: this run if it has grants left, otherwise the next one.
 pub(crate) fn next_run(policy: &Policy, who: &Principal, scope: &Scope, run: Run) -> Option<Run>
     requires { IsEffectiveRun policy.now who.now scope.now run }
     ensures next { MatchOption result

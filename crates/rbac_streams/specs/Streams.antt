@@ -21,7 +21,7 @@ pub record SinkView (W : Type 0) : Type 0 where
   pub has_failed : Bool
   pub taken : ℕ
 
--- text that hasn't been written to a sink yet, and how many bytes of the text before it a sink took
+-- the pending text of a page, and how many bytes of the page's text the sink took
 pub record PageView : Type 0 where
   pub pending : List ℕ
   pub written : ℕ

@@ -21,7 +21,7 @@ pub record Printed {W : Type 0} (contents : W → Option (List ℕ)) (start now 
   pub whole : text ≡ prefix ++ page.pending
   pub written : page.written ≡ counted 0 (length prefix)
 
--- since `start` the sink took a prefix of the text, and the page says how long the prefix is
+-- since `start` the sink took a prefix of the text, and the page counts the bytes of this prefix
 pub record Stopped {W : Type 0} (contents : W → Option (List ℕ)) (start now : SinkView W)
     (page : PageView) (text : List ℕ) : Type 0 where
   pub prefix : List ℕ
@@ -30,14 +30,14 @@ pub record Stopped {W : Type 0} (contents : W → Option (List ℕ)) (start now 
   pub whole : text ≡ prefix ++ rest
   pub written : page.written ≡ counted 0 (length prefix)
 
--- from (old, page) to (new, after) more text was printed
+-- more text was printed, which changed the sink from old to new, and page to after
 abbrev pub Prints : {W : Type 0} → (W → Option (List ℕ)) → SinkView W → PageView → SinkView W
     → PageView → List ℕ → Type 0
 Prints {W} contents old page new after more = (start : SinkView W) (text : List ℕ)
     → Printed contents start old page text → Printed contents start new after (text ++ more)
 
--- printing more text stopped: the sink took a prefix of the whole text, including what was printed
--- before
+-- printing more text stopped: the sink took a prefix of the whole text, which begins with what was
+-- printed before
 abbrev pub StopsIn : {W : Type 0} → (W → Option (List ℕ)) → SinkView W → PageView → SinkView W
     → PageView → List ℕ → Type 0
 StopsIn {W} contents old page new after more = (start : SinkView W) (text : List ℕ)

@@ -4,7 +4,7 @@ ghost use Rattle.std.specs.Prelude.{◌≡◌};
 
 use std::marker::Model;
 
-/// One input, from a file or standard input, read whole: its bytes, whatever they say.
+/// The bytes of one input, which is a file or standard input, read whole. They may be any bytes.
 #[derive(Clone, Debug, Drop)]
 pub struct Input {
     bytes: Vec<u8>,

@@ -1,4 +1,5 @@
-//! A reader and a writer that stay failed once they have failed, and reading an input whole.
+//! A reader and a writer that aren't called again after a failure, pages of output, and reading a
+//! whole input.
 #![tactic(auto)]
 
 mod input;

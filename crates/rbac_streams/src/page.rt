@@ -12,8 +12,8 @@ use std::marker::Model;
 // The text is written to the sink once this many bytes of it are pending.
 const FULL: usize = 65_536;
 
-/// Text that is printed bit by bit and written to a sink in pieces of 64 KiB or more, the last of
-/// which may be shorter, with the number of its bytes that the sink took.
+/// Text that is printed bit by bit, and written to a sink in pieces of 64 KiB or more; the last
+/// piece may be shorter. The page counts how many bytes of the text the sink took.
 #[derive(Drop)]
 pub struct Page {
     pending: Vec<u8>,
@@ -38,8 +38,8 @@ pub enum PrintFault {
 }
 
 impl Page {
-    /// An empty page for text that begins at this sink. Doesn't allocate. The sink is passed so
-    /// that what is printed counts from here.
+    /// An empty page for text that begins at this sink. Doesn't allocate. The call doesn't use the
+    /// sink: the contract needs it to count the text from here.
     pub fn start<W: Write + Drop>(alloc: Global, _sink: &Sink<W>) -> Page
         ensures printed { Printed W.contents _sink.now _sink.now result [] }
         ensures took { Took W.contents _sink.now _sink.now [] }
@@ -58,8 +58,8 @@ impl Page {
         self.written
     }
 
-    /// Writes everything that is pending to the sink. If the sink fails, all of it stays pending,
-    /// including the prefix that was taken.
+    /// Writes all pending text to the sink. If the sink fails, all of this text stays pending,
+    /// including the prefix that the sink took.
     pub fn flush<W: Write + Drop>(&mut self, sink: &mut Sink<W>) -> Result<(), PrintFault>
         requires { sink.old.has_failed ≡ false }
         ensures ok { OnOk result ((start : SinkView W) (text : List ℕ)
@@ -87,8 +87,9 @@ impl Page {
         }
     }
 
-    /// Adds to the text, and writes it to the sink once it is long. If it runs out of memory,
-    /// nothing changes; if the sink fails, the text is pending with what was added.
+    /// Adds to the text, and writes the pending text to the sink if it has 64 KiB or more. If it
+    /// runs out of memory, nothing changes. If the sink fails, the pending text includes what was
+    /// added.
     pub fn print<W: Write + Drop>(
         &mut self,
         sink: &mut Sink<W>,

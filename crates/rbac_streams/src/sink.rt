@@ -1,4 +1,4 @@
-//! A writer that stays failed once it has failed, and counts what it took.
+//! A writer that isn't called again after a failure, with the number of bytes that it took.
 
 ghost use Rattle.std.specs.Prelude.{◌≡◌, ◌<◌, ◌≤◌, [], length, take, true, false, IfOk, IfErr};
 ghost use Rattle.std.specs.Prelude.{OnOk, OnErr};
@@ -57,9 +57,9 @@ impl<W: Write + Drop> Sink<W> {
     }
 
     /// Hands the writer a piece once, and returns the length of the prefix that it took: at least
-    /// one byte.
+    /// one byte. Fails if the writer returns an error or takes nothing (own).
     ///
-    /// If the writer has already failed, it isn't called, and nothing changes.
+    /// After a failure, each call fails: the writer isn't called, and nothing changes.
     pub fn write(&mut self, piece: &[u8]) -> Result<usize, Failed>
         requires { 0 < length piece.now }
         ensures ok { IfOk result (λ n. (0 < n) × (n ≤ length piece.now)

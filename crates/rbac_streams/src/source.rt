@@ -1,4 +1,4 @@
-//! A reader that stays failed once it has failed, and reading an input whole.
+//! A reader that isn't called again after a failure, and reading a whole input.
 
 ghost use Rattle.std.specs.Prelude.{◌≡◌, ◌≢◌, ℕ, ◌+◌, ◌<◌, ◌≤◌, List, [], ◌++◌, length, take};
 ghost use Rattle.std.specs.Prelude.{true, false, IfOk, OnOk, IfErr, OnErr, IsErrOf};
@@ -89,9 +89,9 @@ impl<R: Read + Drop> Source<R> {
     }
 
     /// Reads once, into the start of the buffer, and returns how many bytes were read: 0 only at
-    /// the end.
+    /// the end. Fails if the reader returns an error.
     ///
-    /// If the reader has already failed, it isn't called, and nothing changes.
+    /// After a failure, each call fails: the reader isn't called, and nothing changes.
     pub fn read(&mut self, room: &mut [u8]) -> Result<usize, Failed>
         requires { 0 < length room.old }
         ensures ok { IfOk result (λ n. (n ≤ length room.new)
@@ -118,10 +118,11 @@ impl<R: Read + Drop> Source<R> {
     }
 }
 
-/// Reads everything there is, at most 67,108,864 bytes (64 MiB), in at most 67,108,865 reads.
+/// Reads everything that the reader has, at most 67,108,864 bytes (64 MiB), in at most 67,108,865
+/// reads.
 ///
 /// I1 if a read failed, I2 if there were more bytes, I3 if it ran out of memory. After I1 and I3 at
-/// most 67,108,864 bytes were taken from the reader, and after I2 at most one read more.
+/// most 67,108,864 bytes were taken from the reader, and after I2 at most one read of 64 KiB more.
 pub fn read_input<R: Read + Drop>(
     alloc: Global,
     source: &mut Source<R>,
@@ -157,11 +158,11 @@ pub fn read_input<R: Read + Drop>(
     }
 }
 
-/// Reads everything that a slice has left, as [`read_input`] does for any reader. This contract
-/// follows from the contract of `read_input` alone.
+/// Reads everything that a slice has left, with the limit and the errors of [`read_input`]. This
+/// contract follows from the contract of `read_input` alone.
 ///
-/// A slice shows its bytes, so here the contract says plainly which bytes an input has. A file
-/// doesn't show its bytes; for it the same holds as far as its reads return what it has.
+/// Contracts see the bytes of a slice, so this contract states which bytes the input has. They
+/// don't see the bytes of a file; for a file, the same holds as far as its reads return its bytes.
 pub fn read_slice(alloc: Global, source: &mut Source<&[u8]>) -> Result<Input, InputFault>
     requires { source.old.has_failed ≡ false }
     ensures ok { IfOk result

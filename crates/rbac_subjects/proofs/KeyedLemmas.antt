@@ -130,6 +130,16 @@ module _ (xs : List Keyed) (up : IsSorted keyed_cmp xs) where
     pub all_seen : (at : ℕ) → ((n : ℕ) → (p : IsUnderBetween xs key from to n) → p.0.0 < at) → (n : ℕ) → IsSeen xs key from to at n ↔ IsUnderBetween xs key from to n
     all_seen at low n = (λ s. (s.0, s.2, s.3), λ p. (p.0, low n p, p.1, p.2))
 
+    -- what is listed below `to` stands before the first entry that isn't
+    pub below_end : (past : ℕ) → IsFirstEntry xs (keyed key to) past → (n : ℕ) → (p : IsUnderBetween xs key from to n) → p.0.0 < past
+    below_end past point n p = elim (cases_lt p.0.0 past) [
+      | inl l ↦ l
+      | inr le ↦
+          let less : is_lt (keyed_cmp (keyed key n) (keyed key to)) ≡ true = ap is_lt (under_one key n to) ∙ is_less n to p.2 in
+          let e : is_lt (keyed_cmp (keyed key n) (keyed key to)) ≡ false = rw p.0.2 at (point.1 p.0.0 (keyed key n) le p.0.1) in
+          cc
+    ]
+
     module _ (at : ℕ) (x : Keyed) (within : at < length xs) (here : x ≡ get_or xs at x) where
       -- where an entry isn't before the last, those after it aren't either
       pub none_after : is_lt (keyed_cmp x (keyed key to)) ≡ false → (n : ℕ) → (p : IsUnderBetween xs key from to n) → p.0.0 < at

@@ -27,7 +27,8 @@ IsNamedIn p who namespace = (number : ℕ) × (g : GrantView) × (slice_get p.gr
 pub record IsNextNamespace (p : PolicyView) (who : Who) (from found : Text) : Type 0 where
   pub after : text_cmp found from ≢ Less
   pub named : IsNamedIn p who found
-  pub none_before : (x : Text) → IsNamedIn p who x → text_cmp x found ≡ Less → text_cmp x from ≡ Less
+  pub none_before : (x : Text) → IsNamedIn p who x → text_cmp x found ≡ Less
+      → text_cmp x from ≡ Less
 
 -- the least namespace, from that one on, where a RoleBinding names who asks, if there is one
 abbrev pub AnswersNextNamespace : PolicyView → Who → Text → Option Text → Type 0
@@ -39,8 +40,8 @@ AnswersNextNamespace p who from o =
 abbrev pub HasRoleBindings : Held → Text → Type 0
 HasRoleBindings held namespace = Any (λ b. b.namespace ≡ Some namespace) held.bindings
 
--- the grants numbered from `start` up to `end` have the property, none of those from `from` up to
--- `start` has it, and from `from` on the binding of the first has no others
+-- the grants numbered from `start` up to `end` have the property, no grant from `from` up to
+-- `start` has it, and the binding of grant `start` has no further grants from `from` on
 pub record IsNextRunOf (p : PolicyView) (P : ℕ → Type 0) (from start end : ℕ) : Type 0 where
   pub after : from ≤ start
   pub some : start < end

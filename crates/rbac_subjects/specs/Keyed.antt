@@ -32,7 +32,7 @@ abbrev pub HasKeysOf : List Keyed → List Keyed → Binding → ℕ → Type 0
 HasKeysOf old new b place = (x : Keyed) → Contains new x
     ↔ (Contains old x ⊎ ((x.place ≡ place) × HasKey b x.key))
 
--- exactly the entries before that one come before y
+-- exactly the entries before place `at` come before y
 abbrev pub IsFirstEntry : List Keyed → Keyed → ℕ → Type 0
 IsFirstEntry xs y at = IsPartitionPoint
     (λ x. is_lt (keyed_cmp x y) ≡ true) (λ x. is_lt (keyed_cmp x y) ≡ false) xs at
@@ -83,7 +83,7 @@ abbrev pub IsOfLive : PolicyView → List Keyed → Live → (Text → Type 0) �
 IsOfLive p xs live Has number = (place : ℕ) × IsOfBinding p number place
     × IsLiveUnderAny xs live Has place
 
--- the lesser of the numbers that are given; none if neither is
+-- the lesser of the given numbers; none if neither is given
 abbrev pub sooner : Option ℕ → Option ℕ → Option ℕ
 sooner None b = b
 sooner (Some a) None = Some a

@@ -1,7 +1,7 @@
 -- The least of the places that were taken in, as many as there is room for.
 use Rattle.std.specs.Prelude.{◌≡◌, ℕ, ◌<◌, ◌⊎◌, Bool, true, false, List, [], All, Contains}
 
--- the places that are kept, and whether no others were taken in
+-- the places that are kept, and whether no other places were taken in
 pub record LeastView : Type 0 where
   pub kept : List ℕ
   pub are_all : Bool
@@ -14,15 +14,15 @@ most_kept = 256
 abbrev pub no_places : LeastView
 no_places = record { kept = []; are_all = true }
 
--- other places were taken in, and this one comes after all that are kept
+-- not all places that were taken in are kept, and this place comes after all that are
 abbrev pub IsPast : LeastView → ℕ → Type 0
 IsPast l place = (l.are_all ≡ false) × All (λ other. other < place) l.kept
 
--- the place is one of those that were kept, or it has the property
+-- the place was kept, or has the property
 abbrev pub IsKeptOr : (ℕ → Type 0) → LeastView → ℕ → Type 0
 IsKeptOr P l place = Contains l.kept place ⊎ P place
 
--- new is old with the places taken in that have the property
+-- new is old after the places with the property were taken in
 pub record Takes (P : ℕ → Type 0) (old new : LeastView) : Type 0 where
   pub from : (place : ℕ) → Contains new.kept place → IsKeptOr P old place
   pub each : (place : ℕ) → IsKeptOr P old place → IsKeptOr (IsPast new) new place

@@ -6,7 +6,8 @@ use std::alloc::{AllocError, AllocFailed};
 use std::error::Error;
 use std::fmt;
 
-/// Why an index can't be built or queried.
+/// Why an index can't be built or queried (own). It is printed as `out of memory`, without a
+/// number.
 #[derive(Debug, Drop, Clone, Copy, PartialEq, Eq)]
 pub enum IndexFault {
     /// X1: out of memory.

@@ -1,4 +1,5 @@
-//! The first places of live bindings that name a principal: each of its keys is looked up once.
+//! The first places of live bindings that name a principal. Each key of the principal is looked up
+//! once.
 
 ghost use Rattle.std.specs.List.Sorted.{IsSorted};
 ghost use Rattle.rbac_model.specs.Holders.{IsKeyFor};
@@ -33,8 +34,8 @@ fn take_live(entries: &[Keyed], key: &PrincipalKey<'_>, live: Live, places: &mut
     take_between(entries, key, live.from, live.to, places);
 }
 
-// Takes in the places `from..to` under this key. The first is looked up; the others come right
-// after it.
+// Takes in the places `from..to` under this key. The first is looked up; the others follow it
+// directly.
 fn take_between(
     entries: &[Keyed],
     key: &PrincipalKey<'_>,

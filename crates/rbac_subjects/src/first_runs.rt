@@ -12,9 +12,9 @@ use rbac_model::Policy;
 /// Consecutive grants of a binding: those with the numbers `start..end`.
 #[derive(Clone, Copy, Default)]
 pub struct Run {
-    /// The number of the first.
+    /// The number of the first grant.
     pub start: u32,
-    /// The number after that of the last.
+    /// The number after the last grant's.
     pub end: u32,
 }
 

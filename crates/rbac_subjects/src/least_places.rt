@@ -6,14 +6,14 @@ ghost use Rattle.rbac_subjects.specs.Least.{IsPast, Takes, most_kept, no_places}
 use arrayvec::ArrayVec;
 use std::marker::Model;
 
-/// The most places that are kept, and so the most runs that are told at once.
+/// The most places that are kept, and so the most runs that `first_runs` returns.
 pub const MOST_KEPT: usize = 256;
 
 /// The least of the places that were taken in, ascending, each once.
 #[derive(Drop)]
 pub(crate) struct LeastPlaces {
     kept: ArrayVec<usize, MOST_KEPT>,
-    // Whether no others were taken in.
+    // Whether no other places were taken in.
     are_all: bool,
 }
 
@@ -40,8 +40,8 @@ impl LeastPlaces {
         }
     }
 
-    // Takes in a place; where there is no room left, the greatest goes. False if that is this one:
-    // it comes after all that are kept, and so does each later one.
+    // Takes in a place. If there is no room left, the greatest place is dropped. Returns false if
+    // that is this place: it comes after all kept places, and so does each later place.
     pub(crate) fn take_in(&mut self, place: usize) -> bool
         ensures takes { Takes (λ other. other ≡ place) self.old self.new }
         ensures past { result ≡ false → IsPast self.new place }
@@ -72,7 +72,7 @@ impl LeastPlaces {
         self.kept.as_slice()
     }
 
-    // Whether no others were taken in.
+    // Whether no other places were taken in.
     pub(crate) fn are_all(&self) -> bool
         ensures { result ≡ self.now.are_all }
     {

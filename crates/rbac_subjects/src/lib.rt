@@ -1,5 +1,5 @@
-//! The bindings of a policy by whom they name, and where they are live. The contracts here speak
-//! only of the policy.
+//! The bindings of a policy, found by the principals that they name, and where bindings are live.
+//! The contracts of this crate are about the policy alone, and not about an index.
 #![tactic(auto)]
 
 mod fault;

@@ -1,4 +1,4 @@
-//! Where the live bindings are.
+//! The places of live bindings.
 
 ghost use Rattle.std.specs.Prelude.{◌≡◌, ◌<◌, ◌≤◌, ◌↔◌, ℕ, Some, None, IsTrue, length, slice_get};
 ghost use Rattle.std.specs.declared.cmp.Ordering.TheVariants.{Less};
@@ -12,7 +12,7 @@ ghost use Rattle.rbac_subjects.specs.Living.{namespace_cmp, IsLiveRoleBinding};
 use rbac_terms::{Binding, Target, Word};
 use std::cmp::Ordering;
 
-/// How many ClusterRoleBindings there are; they come first. Doesn't allocate.
+/// How many of the bindings are ClusterRoleBindings; these come first. Doesn't allocate.
 pub fn cluster_wide(bindings: &[Binding]) -> usize
     requires { IsAscendingBy binding_name bindings.now }
     ensures within { result ≤ length bindings.now }
@@ -22,7 +22,8 @@ pub fn cluster_wide(bindings: &[Binding]) -> usize
     bindings.partition_point(|binding| binding.namespace.is_none())
 }
 
-// The places of the RoleBindings of this namespace: from the first up to the second.
+// The places of the RoleBindings of this namespace: from the first place up to, but not including,
+// the second.
 pub(crate) fn of_namespace(bindings: &[Binding], namespace: &Word) -> (usize, usize)
     requires { IsAscendingBy binding_name bindings.now }
     ensures within { result.1 ≤ length bindings.now }
@@ -55,8 +56,8 @@ fn cmp_namespace(binding: &Binding, namespace: &Word) -> Ordering
     }
 }
 
-/// The places of the RoleBindings that are live for this target in this namespace: from the first up
-/// to the second. Doesn't allocate.
+/// The places of the RoleBindings that are live for this target in this namespace: from the first
+/// place up to, but not including, the second. Doesn't allocate.
 pub fn live_role_bindings(bindings: &[Binding], namespace: &Word, target: &Target) -> (usize, usize)
     requires { IsAscendingBy binding_name bindings.now }
     ensures within { result.1 ≤ length bindings.now }
@@ -93,7 +94,7 @@ impl Live {
     }
 }
 
-// Where bindings are live, if each of them is.
+// Where bindings are live if all of them are.
 pub(crate) fn everywhere(bindings: &[Binding]) -> Live
     ensures { (at : ℕ) → IsLiveAt result at ↔ (at < length bindings.now) }
 {

@@ -1,4 +1,4 @@
-//! The places of the bindings that name a principal: each of its keys is looked up once.
+//! The places of the bindings that name a principal. Each key of the principal is looked up once.
 
 ghost use Rattle.std.specs.Prelude.{◌↔◌, Contains, IfOk, OnOk, ℕ};
 ghost use Rattle.std.specs.List.Sorted.{IsSorted};
@@ -6,12 +6,12 @@ ghost use Rattle.rbac_model.specs.Holders.{IsKeyFor};
 ghost use Rattle.rbac_subjects.specs.Keyed.{AddsPlaces, IsUnderAny, IsUnderBetween, keyed_cmp};
 
 use crate::principal_keys::{PrincipalKey, keys_of};
-use crate::subject_keys::{Keyed, first_entry, is_before};
+use crate::subject_keys::{Keyed, first_entry};
 use rbac_terms::Principal;
 use std::alloc::{AllocError, Global};
 
-// The places below `end` that are listed under a key of the principal, in any order; one may be there
-// more than once.
+// The places below `end` that are listed under a key of the principal, in any order and with
+// repeats.
 pub(crate) fn places_under(
     alloc: Global,
     entries: &[Keyed],
@@ -29,8 +29,8 @@ pub(crate) fn places_under(
     Ok(places)
 }
 
-// Adds the places below `end` that are listed under this key. The first is looked up; the others come
-// right after it.
+// Adds the places below `end` that are listed under this key. They stand side by side: where they
+// begin is looked up, and where they end.
 fn push_under(
     entries: &[Keyed],
     key: &PrincipalKey<'_>,
@@ -42,11 +42,9 @@ fn push_under(
         places.old.items places.new.items) }
 {
     let mut at = first_entry(entries, key, 0);
-    while at < entries.len() {
+    let past = first_entry(entries, key, end);
+    while at < past {
         let entry = &entries[at];
-        if !is_before(entry, key, end) {
-            return Ok(());
-        }
         places.push(entry.place)?;
         at += 1;
     }

@@ -1,4 +1,4 @@
-//! The keys of a principal: under these the bindings that name it are listed.
+//! The keys of a principal, under which the bindings that name the principal are listed.
 
 ghost use Rattle.std.specs.Prelude.{◌≡◌, ◌↔◌, ◌++◌, Contains};
 ghost use Rattle.rbac_terms.specs.Text.{Text, text_cmp};
@@ -15,11 +15,11 @@ const ACCOUNTS: &[u8] = b"g:system:serviceaccounts";
 // The prefix of the key of the members of the group of a namespace's service accounts.
 const ACCOUNTS_OF: &[u8] = b"g:system:serviceaccounts:";
 
-// The most keys that a principal has besides those of the groups given: its own, those of an
-// account's two groups, and that of the group that says whether a user has signed in.
+// The most keys that a principal has besides those of the given groups: its own key, the keys of an
+// account's two groups, and the key of the group that shows whether a user has signed in.
 const MOST_IMPLIED: usize = 4;
 
-// A key of a principal, in two parts, so that nothing is allocated. Contracts see it whole.
+// A key of a principal, in two parts, so that nothing is allocated. Contracts see the whole key.
 #[derive(Default, Drop)]
 pub(crate) struct PrincipalKey<'a> {
     prefix: &'a [u8],
@@ -46,15 +46,21 @@ impl<'a> PrincipalKey<'a> {
     pub(crate) fn cmp_listed(&self, listed: &[u8]) -> Ordering
         ensures { result ≡ text_cmp listed.now self.now }
     {
+        if self.rest.is_empty() {
+            return listed.cmp(self.prefix);
+        }
         let (head, tail) = listed.split_at(listed.len().min(self.prefix.len()));
-        head.cmp(self.prefix).then(tail.cmp(self.rest))
+        match head.cmp(self.prefix) {
+            Ordering::Equal => tail.cmp(self.rest),
+            by_prefix => by_prefix,
+        }
     }
 }
 
-// The keys of a principal that weren't taken yet. Contracts see the list of them.
+// The keys of a principal that weren't taken yet. Contracts see them as a list.
 #[derive(Drop)]
 pub(crate) struct PrincipalKeys<'a> {
-    // Its own key, and those of the groups that it is in whatever it is given.
+    // The principal's own key, and those of its implied groups.
     implied: IntoIter<PrincipalKey<'a>, MOST_IMPLIED>,
     given: &'a [Word],
 }
@@ -69,8 +75,8 @@ impl<'a> Model for PrincipalKeys<'a> {
     ghost view = { λ keys. keys.implied ++ map (λ group. who_key (AsMember group)) keys.given.now };
 }
 
-// The keys of the principal: its own, those of an account's groups, that of the group that says
-// whether a user has signed in, and those of the groups given. Doesn't allocate.
+// The keys of the principal: its own key, and the keys of an account's groups, of the group that
+// shows whether a user has signed in, and of the given groups. Doesn't allocate.
 pub(crate) fn keys_of(principal: &Principal) -> PrincipalKeys<'_>
     ensures { (key : Text) → Contains result key ↔ IsKeyFor principal.now key }
 {

@@ -1,10 +1,11 @@
-//! The bindings of a policy by whom they name.
+//! The bindings of a policy, found by the principals that they name.
 
 ghost use Rattle.std.specs.Prelude.{◌≡◌, ◌≤◌, ◌↔◌, ℕ, length, IsTrue, IfOk, IfSome};
 ghost use Rattle.std.specs.Prelude.{option_copied, true, false};
 ghost use Rattle.rbac_model.specs.Holders.{IsKeyFor};
 ghost use Rattle.rbac_model.specs.Policies.{IsPolicy};
-ghost use Rattle.rbac_subjects.specs.Bound.{AreNamedPlaces, AreRunsFrom, HasRoleBindings, IsBoundTo, IsNamedBy};
+ghost use Rattle.rbac_subjects.specs.Bound.{AreNamedPlaces, AreRunsFrom, HasRoleBindings};
+ghost use Rattle.rbac_subjects.specs.Bound.{IsBoundTo, IsNamedBy};
 ghost use Rattle.rbac_subjects.specs.Bound.{AnswersNextNamespace, AnswersNextRun};
 ghost use Rattle.rbac_subjects.specs.Keyed.{AreKeyed, IsOfLive};
 ghost use Rattle.rbac_subjects.specs.Least.{most_kept};
@@ -20,8 +21,8 @@ use rbac_terms::{Principal, Word};
 use std::alloc::{AllocError, Global};
 use std::marker::Model;
 
-/// The bindings of a policy that have grants, under the keys of their subjects: so those that name
-/// a principal are found without a look at the others.
+/// The bindings of a policy that have grants, listed under the keys of their subjects. So the
+/// bindings that name a principal are found without a look at the others.
 #[derive(Drop)]
 pub struct SubjectIndex<'p> {
     policy: &'p Policy,
@@ -40,7 +41,7 @@ impl<'p> Model for SubjectIndex<'p> {
 }
 
 impl<'p> SubjectIndex<'p> {
-    /// The bindings of this policy by their subjects. X1 NoMemory if it runs out of memory.
+    /// The index of this policy's bindings. Fails only if it runs out of memory, with X1 NoMemory.
     pub fn build(alloc: Global, policy: &'p Policy) -> Result<Self, IndexFault>
         ensures { IfOk result (λ i. i ≡ policy.now) }
     {
@@ -83,8 +84,8 @@ impl<'p> SubjectIndex<'p> {
     }
 
     /// The next grants, from this number on, of bindings that name the principal and are live in
-    /// this namespace for some target: a run of numbers, from the first up to the second. `None` if
-    /// there are no more of them. Doesn't allocate.
+    /// this namespace for some target: a run of numbers, from the first up to, but not including,
+    /// the second. `None` if there are no more such grants. Doesn't allocate.
     pub fn next_run(&self, principal: &Principal, namespace: &Word, from: u32) -> Option<(u32, u32)>
         ensures { AnswersNextRun self.now (IsBoundTo self.now principal.now namespace.now)
             from result }
@@ -94,8 +95,8 @@ impl<'p> SubjectIndex<'p> {
     }
 
     /// The next grants, from this number on, of bindings that name the principal, wherever they are
-    /// live: a run of numbers, from the first up to the second. `None` if there are no more of them.
-    /// Doesn't allocate.
+    /// live: a run of numbers, from the first up to, but not including, the second. `None` if there
+    /// are no more such grants. Doesn't allocate.
     pub fn next_named(&self, principal: &Principal, from: u32) -> Option<(u32, u32)>
         ensures next { AnswersNextRun self.now (IsNamedBy self.now principal.now) from result }
         ensures within { IfSome result (λ run. run.1 ≤ length self.now.grants) }
@@ -105,9 +106,9 @@ impl<'p> SubjectIndex<'p> {
         next_live_run(self.policy, self.named.as_slice(), principal, all, from)
     }
 
-    /// The places, among the policy's bindings, of those with grants that name the principal, wherever
-    /// they are live: in any order, and one may be there more than once. Each key of the principal is
-    /// looked up once. Fails only if it runs out of memory.
+    /// The places of the policy's bindings that have grants and name the principal, wherever they
+    /// are live, in any order and with repeats. Each key of the principal is looked up once. Fails
+    /// only if it runs out of memory.
     pub fn named_places(
         &self,
         alloc: Global,
@@ -120,8 +121,8 @@ impl<'p> SubjectIndex<'p> {
     }
 
     /// The first runs of the grants of bindings that name the principal and are live in this
-    /// namespace for some target, as many as there is room for, and whether there are no others.
-    /// Doesn't allocate.
+    /// namespace for some target, at most `MOST_RUNS`, and whether there are no others. Doesn't
+    /// allocate.
     pub fn first_runs(&self, principal: &Principal, namespace: &Word) -> FirstRuns
         ensures runs { AreRunsFrom self.now principal.now namespace.now
             result.are_all 0 result.runs.items }

@@ -1,5 +1,5 @@
-//! The bindings under the keys of their subjects, in a sorted list, so that the bindings that name
-//! a principal are found by its keys, and no export can make a look-up slow.
+//! The bindings under the keys of their subjects, in a sorted list. The bindings that name a
+//! principal are looked up by the principal's keys, so no export can make a look-up slow.
 
 ghost use Rattle.std.specs.Prelude.{◌≡◌, ◌≤◌, ◌↔◌, IfOk, OnOk, Contains, length};
 ghost use Rattle.std.specs.Ordering.{is_lt};
@@ -16,7 +16,7 @@ use rbac_terms::{Binding, Principal, Word, subject_key};
 use std::alloc::{AllocError, Global};
 use std::cmp::Ordering;
 
-// The key of a subject, and the place of a binding that has it.
+// The key of a subject, and the place of a binding that has this subject.
 #[derive(Drop)]
 pub(crate) struct Keyed {
     pub(crate) key: Word,
@@ -58,18 +58,24 @@ fn push_keys(
 fn cmp_keyed(a: &Keyed, b: &Keyed) -> Ordering
     ensures { result ≡ keyed_cmp a.now b.now }
 {
-    a.key.cmp(&b.key).then(a.place.cmp(&b.place))
+    match a.key.cmp(&b.key) {
+        Ordering::Equal => a.place.cmp(&b.place),
+        by_key => by_key,
+    }
 }
 
 // Whether the entry comes before one with this key and place.
 pub(crate) fn is_before(entry: &Keyed, key: &PrincipalKey<'_>, place: usize) -> bool
     ensures { result ≡ is_lt (keyed_cmp entry.now (keyed key.now place)) }
 {
-    let by_key = key.cmp_listed(entry.key.as_bytes());
-    by_key.then(entry.place.cmp(&place)).is_lt()
+    match key.cmp_listed(entry.key.as_bytes()) {
+        Ordering::Less => true,
+        Ordering::Equal => entry.place < place,
+        Ordering::Greater => false,
+    }
 }
 
-// Where the first entry is that doesn't come before one with this key and place.
+// The place of the first entry that doesn't come before an entry with this key and place.
 pub(crate) fn first_entry(entries: &[Keyed], key: &PrincipalKey<'_>, place: usize) -> usize
     requires { IsSorted keyed_cmp entries.now }
     ensures first { IsFirstEntry entries.now (keyed key.now place) result }
@@ -113,7 +119,7 @@ fn next_live(entries: &[Keyed], key: &PrincipalKey<'_>, live: Live, from: usize)
     if next < live.to { Some(next) } else { None }
 }
 
-// The lesser of the places that are given; `None` if neither is.
+// The lesser of the given places; `None` if neither is given.
 fn sooner(a: Option<usize>, b: Option<usize>) -> Option<usize>
     ensures { result ≡ sooner_of a b }
 {

@@ -5,10 +5,9 @@ use Rattle.rbac_terms.specs.Principals.{account_user, account_principal}
 use Rattle.rbac_terms.specs.declared.granting.Subject.{Subject}
 use Rattle.rbac_terms.specs.declared.granting.Subject.TheVariants.{User, Group, Account}
 
--- a subject of a binding in that namespace, or in none, names who asks: the user of that name,
--- anyone in the group, or the user of the service account (Using RBAC Authorization, Referring to
--- subjects); an account without a namespace is in the binding's, and names nobody if the binding
--- has none (own)
+-- a subject names who asks: the user of its name, anyone in its group, or the user of its service
+-- account (Using RBAC Authorization, Referring to subjects); an account without a namespace takes
+-- the binding's, and names nobody if the binding has none (own)
 abbrev pub Names : Subject → Option Text → Who → Type 0
 Names (User name) _ who = IsUserNamed who name
 Names (Group name) _ who = IsInGroup who name
@@ -16,8 +15,8 @@ Names (Account (Some namespace) name) _ who = IsUserNamed who (account_user name
 Names (Account None name) (Some namespace) who = IsUserNamed who (account_user namespace name)
 Names (Account None name) None _ = ⊥
 
--- the key of the principal that a subject stands for, if any (own): an account's key is its user's,
--- and an account without any namespace has none
+-- the key of the principal that a subject stands for (own): an account has the key of its user, and
+-- no key if neither it nor the binding has a namespace
 abbrev pub IsSubjectKey : Subject → Option Text → Text → Type 0
 IsSubjectKey (User name) _ key = key ≡ who_key (AsUser name [])
 IsSubjectKey (Group name) _ key = key ≡ who_key (AsMember name)
@@ -27,13 +26,13 @@ IsSubjectKey (Account None name) (Some namespace) key =
     key ≡ who_key (AsUser (account_user namespace name) [])
 IsSubjectKey (Account None name) None key = ⊥
 
--- a user or a member of a group; an empty name, which no document gives, names nobody (own)
+-- the principal of this name; an empty name, which no document gives, names nobody (own)
 abbrev pub named : (Text → Who) → Text → Option Who
 named who [] = None
 named who (b ∷ bs) = Some (who (b ∷ bs))
 
--- the principal that a subject of a binding in that namespace, or in none, stands for: an account's
--- is its user, and an account without any namespace has none (own)
+-- the principal that a subject stands for (own): an account stands for its user, and for nobody if
+-- neither it nor the binding has a namespace
 abbrev pub subject_principal : Option Text → Subject → Option Who
 subject_principal _ (User name) = named (λ n. AsUser n []) name
 subject_principal _ (Group name) = named AsMember name

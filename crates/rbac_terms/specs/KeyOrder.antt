@@ -10,11 +10,11 @@ use Rattle.rbac_terms.specs.Keys.{texts, key_cmp}
 pub key_cmp_total : IsTotalOrder key_cmp
 key_cmp_total = on_total texts (lists_total nat_list_cmp_total)
 
--- tying in the order of keys is an equivalence
+-- comparing as equal is an equivalence of keys
 pub key_cmp_equiv : IsEquivalence (eq_by_cmp key_cmp)
 key_cmp_equiv = eq_by_cmp_equiv key_cmp_total
 
--- the order of keys orders tied keys alike
+-- the order of keys is a partial order that agrees with their equality
 pub key_cmp_partial : IsPartialOrder (eq_by_cmp key_cmp) (as_partial_cmp key_cmp)
 key_cmp_partial =
     partial_order_from_agreeing_total key_cmp key_cmp_total (λ _ _. refl) (λ _ _. refl)

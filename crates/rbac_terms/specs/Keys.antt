@@ -19,7 +19,7 @@ pub record KeyTexts : Type 0 where
 abbrev pub texts : KeyTexts → List Text
 texts k = k.principal ∷ k.namespace ∷ k.verb ∷ k.group ∷ k.resource ∷ k.name ∷ []
 
--- the namespace of a request; a request for a URL has the empty one, whatever is passed in (own)
+-- the namespace of a request; it is empty for a URL, whatever is passed in (own)
 abbrev pub namespace_at : Text → What → Text
 namespace_at namespace (Resource group text name) = namespace
 namespace_at namespace (Url path) = []

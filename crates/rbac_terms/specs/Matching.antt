@@ -4,8 +4,8 @@ use Rattle.rbac_terms.specs.declared.matching.Rule.{Rule}
 use Rattle.rbac_terms.specs.Targets.{What, Resource, Url}
 use Rattle.rbac_terms.specs.Text.{Text, star, slash, IsCutAtFirst, BeginsWith}
 
--- a rule's word matches a verb or an API group: it is `*`, or what is requested (rbac/v1 evaluation
--- helpers)
+-- a rule's word matches a verb or an API group: the word is `*`, or the verb or the group itself
+-- (rbac/v1 evaluation helpers)
 abbrev pub WordMatches : Text → Text → Type 0
 WordMatches w x = (w ≡ codes "*") ⊎ (w ≡ x)
 
@@ -20,7 +20,7 @@ abbrev pub ResourceWordMatches : Text → Text → Type 0
 ResourceWordMatches w x = WordMatches w x
     ⊎ ((s : Text) × (w ≡ codes "*/" ++ s) × (s ≢ []) × FollowsFirstSlash x s)
 
--- a rule's names match an object name: there are none, or this one is among them (rbac/v1
+-- a rule's object names match an object name: the rule has no names, or has this one (rbac/v1
 -- evaluation helpers)
 abbrev pub NameMatches : List Text → Text → Type 0
 NameMatches names x = (names ≡ []) ⊎ Contains names x
@@ -29,12 +29,12 @@ NameMatches names x = (names ≡ []) ⊎ Contains names x
 abbrev pub EndsInStar : Text → Type 0
 EndsInStar t = (r : Text) × (t ≡ r ++ star ∷ [])
 
--- the word ends in stars, and p is what comes before all of them
+-- the word ends in stars, and p is the part before all of them
 abbrev pub IsBeforeStars : Text → Text → Type 0
 IsBeforeStars w p = (k : ℕ) × (w ≡ p ++ replicate (k + 1) star) × (¬ EndsInStar p)
 
--- a rule's word matches a URL path: it is the path, or it ends in stars and the path begins with
--- what comes before all of them (rbac/v1 evaluation helpers; more than one star: own)
+-- a rule's word matches a URL path: the word is the path, or ends in stars and the path begins with
+-- the part before all of them (rbac/v1 evaluation helpers; more than one star: own)
 abbrev pub UrlWordMatches : Text → Text → Type 0
 UrlWordMatches w x = (w ≡ x)
     ⊎ ((q : Text) × (k : ℕ) × (w ≡ q ++ replicate (k + 1) star) × (¬ EndsInStar q) × BeginsWith x q)
@@ -43,8 +43,8 @@ UrlWordMatches w x = (w ≡ x)
 abbrev pub VerbOk : Rule → Text → Type 0
 VerbOk r v = Any (λ w. WordMatches w v) r.verbs
 
--- the rule matches the target, verbs aside: a resource by some group word, some resource word and
--- the names; a URL by some URL word (rbac/v1 evaluation helpers)
+-- the rule matches the target, whatever the verb: a resource by one of its group words, one of its
+-- resource words and its names, a URL by one of its URL words (rbac/v1 evaluation helpers)
 abbrev pub TargetOk : Rule → What → Type 0
 TargetOk r (Resource group text name) =
     Any (λ w. WordMatches w group) r.groups × Any (λ w. ResourceWordMatches w text) r.resources

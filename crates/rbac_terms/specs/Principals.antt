@@ -2,8 +2,8 @@ use Rattle.std.specs.Prelude.{◌≡◌, ◌≢◌, List, [], ◌++◌, ◌⊎�
 use Rattle.std.specs.Prelude.{drop}
 use Rattle.rbac_terms.specs.Text.{Text, colon}
 
--- who asks: a user by name with the groups given (Using RBAC Authorization), or a member of one
--- group, without a name (own)
+-- who asks: a user with a name and given groups (Using RBAC Authorization), or an unnamed member of
+-- one group (own)
 pub data Who : Type 0 where
   AsUser : (name : Text) (given : List Text) → Who
   AsMember : (group : Text) → Who
@@ -33,8 +33,8 @@ abbrev pub IsAccountOf : Text → Text → Type 0
 IsAccountOf user namespace = (name : Text) × (user ≡ account_user namespace name) × IsPart namespace
     × IsPart name
 
--- the groups that the service accounts of a namespace are in: that of all service accounts, and
--- that of those in the namespace (Using RBAC Authorization, Referring to subjects)
+-- the groups of the service accounts of a namespace: the group of all service accounts, and the
+-- group of the service accounts of that namespace (Using RBAC Authorization, Referring to subjects)
 abbrev pub IsGroupOfAccounts : Text → Text → Type 0
 IsGroupOfAccounts namespace g = (g ≡ codes "system:serviceaccounts")
     ⊎ (g ≡ codes "system:serviceaccounts:" ++ namespace)
@@ -45,22 +45,22 @@ abbrev pub IsAccountGroup : Text → Text → Type 0
 IsAccountGroup user g = (namespace : Text) × IsAccountOf user namespace
     × IsGroupOfAccounts namespace g
 
--- the group that says whether a user has signed in: `system:unauthenticated` for the anonymous
--- user, `system:authenticated` for any other (Using RBAC Authorization), except one that is given
--- `system:unauthenticated` (own)
+-- the group that shows whether a user has signed in: `system:unauthenticated` for the anonymous
+-- user, `system:authenticated` for any other (Using RBAC Authorization), but no group for another
+-- user who is given `system:unauthenticated` (own)
 abbrev pub IsSignInGroup : Text → List Text → Text → Type 0
 IsSignInGroup user given g =
     ((user ≡ codes "system:anonymous") × (g ≡ codes "system:unauthenticated"))
     ⊎ ((user ≢ codes "system:anonymous") × (¬ Contains given (codes "system:unauthenticated"))
     × (g ≡ codes "system:authenticated"))
 
--- the groups that a user is in besides those given: as a service account, and as a user that has
--- signed in or hasn't (Using RBAC Authorization)
+-- the groups that a user is in besides the given ones: as a service account, and by having signed
+-- in or not (Using RBAC Authorization)
 abbrev pub IsImpliedGroup : Text → List Text → Text → Type 0
 IsImpliedGroup user given g = IsAccountGroup user g ⊎ IsSignInGroup user given g
 
--- the groups of who asks: for a user, those given and the implied ones (Using RBAC Authorization);
--- for a member, its one group alone (own)
+-- the groups of who asks: for a user, the given and the implied ones (Using RBAC Authorization);
+-- for a member of a group, that group alone (own)
 abbrev pub IsInGroup : Who → Text → Type 0
 IsInGroup (AsUser name given) g = Contains given g ⊎ IsImpliedGroup name given g
 IsInGroup (AsMember group) g = g ≡ group
@@ -70,7 +70,7 @@ abbrev pub who_name : Who → Text
 who_name (AsUser name given) = name
 who_name (AsMember group) = group
 
--- the groups that a user is given; a member of one group is given none (own)
+-- the groups given to a user; none for a member of a group (own)
 abbrev pub given_of : Who → List Text
 given_of (AsUser name given) = given
 given_of (AsMember group) = []
@@ -86,12 +86,13 @@ abbrev pub IsAccountIn : Who → Text → Type 0
 IsAccountIn (AsUser name given) namespace = IsAccountOf name namespace
 IsAccountIn (AsMember group) namespace = ⊥
 
--- the group that says whether who asks has signed in; a member of one group has none (own)
+-- the group that shows whether who asks has signed in; a member of a group has none (own)
 abbrev pub SignsInAs : Who → Text → Type 0
 SignsInAs (AsUser name given) g = IsSignInGroup name given g
 SignsInAs (AsMember group) g = ⊥
 
--- who asks, as the program holds it: a flag that is true for a user, the key, and the groups given
+-- who asks, from the program's fields: a flag that is true for a user, the key, and the given
+-- groups
 abbrev pub who_of : Bool → Text → List Text → Who
 who_of true key given = AsUser (drop 2 key) given
 who_of false key given = AsMember (drop 2 key)

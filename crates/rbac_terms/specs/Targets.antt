@@ -48,7 +48,7 @@ IsUrl t = t ≡ Url (text_of t)
 abbrev pub IsResource : What → Type 0
 IsResource t = t ≡ Resource (group_of t) (text_of t) (name_of t)
 
--- the target, as the program holds it: a flag that is true for a URL, and three texts
+-- the target, from the program's fields: a flag that is true for a URL, and three texts
 abbrev pub what_of : Bool → Text → Text → Text → What
 what_of true group text name = Url text
 what_of false group text name = Resource group text name

@@ -6,14 +6,14 @@ use std::alloc::{AllocError, AllocFailed};
 use std::error::Error;
 use std::fmt;
 
-/// Why a principal, a target or a key can't be made, or putting an object fails (own). The fault's
-/// text is the number and name of the refusal; out of memory has no number there.
+/// Why a principal, a target or a key can't be made, or why putting an object fails (own). A fault
+/// is printed as the refusal's number and name; out of memory is printed without a number.
 #[derive(Debug, Drop, Clone, Copy, PartialEq, Eq)]
 pub enum ModelFault {
     /// P1: a principal without a name.
     EmptyName,
-    /// P3: a resource text that is empty or begins with a slash, or a URL that doesn't begin with
-    /// one.
+    /// P3: a resource text that is empty or begins with a slash, or a URL that doesn't begin with a
+    /// slash.
     BadTarget,
     /// P5: out of memory.
     NoMemory,

@@ -7,13 +7,13 @@ use crate::text::{Word, Words};
 use std::alloc::{AllocError, Global};
 use std::marker::Model;
 
-// The groups that a user is given, as given: in order, with repeats. Contracts see them as a list.
+// The groups given to a user, in the given order, with repeats. Contracts see them as a list.
 pub(crate) struct GivenGroups {
     given: Words,
-    // The texts again, sorted, because a user with thousands of groups may be looked up for each of
-    // a million subjects. `None` for a member of a group, who is given no groups, and once the
-    // groups of another entry were added: a user may have a million entries, and sorting at each
-    // would take time quadratic in their number.
+    // The same texts, sorted for look-up: a user may have thousands of groups, and be compared with
+    // a million subjects. `None` for a member of a group, who has no given groups, and after
+    // `append`. A user may have a million entries in a universe, and sorting after each of them
+    // would take quadratic time.
     sorted: Option<Vec<Word>>,
 }
 
@@ -57,14 +57,14 @@ impl GivenGroups {
         })
     }
 
-    // The groups, as they are given.
+    // The given groups, in order.
     pub(crate) fn as_slice(&self) -> &[Word]
         ensures { result.now ≡ self.now }
     {
         self.given.as_slice()
     }
 
-    // Whether the group of this name is among those given.
+    // Whether the given groups contain the group of this name.
     pub(crate) fn contains(&self, group: &[u8]) -> bool
         ensures { IsTrue result ↔ Contains self.now group.now }
     {

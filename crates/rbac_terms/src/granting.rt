@@ -10,7 +10,7 @@ ghost use Rattle.rbac_terms.specs.Principals.{AsUser, AsMember};
 use crate::fault::ModelFault;
 use crate::items::Items;
 use crate::matching::Rules;
-use crate::request::{Principal, account_user, member_key, user_key};
+use crate::request::{Principal, account_key, member_key, user_key};
 use crate::selecting::{Labels, Selectors};
 use crate::text::{Word, Words};
 use std::alloc::{AllocError, Global};
@@ -42,10 +42,10 @@ pub struct ClusterRole {
     pub name: Word,
     /// The labels by which aggregated roles select it.
     pub labels: Labels,
-    /// The rules, in their written order; those of an aggregated role aren't used.
+    /// The rules, in their written order. If the role is aggregated, they aren't used.
     pub rules: Rules,
-    /// The selectors of the roles that an aggregated role gathers its rules from; a plain role has
-    /// none.
+    /// The selectors by which an aggregated role gathers rules from other roles; `None` for a plain
+    /// role.
     pub aggregation: Option<Selectors>,
 }
 
@@ -86,9 +86,9 @@ pub enum Subject {
     Group(Word),
     /// A service account.
     Account {
-        /// Its namespace; if there is none, the binding's.
+        /// The account's namespace; `None` means the binding's.
         namespace: Option<Word>,
-        /// Its name within the namespace.
+        /// The account's name within the namespace.
         name: Word,
     },
 }
@@ -116,9 +116,9 @@ pub struct Binding {
     pub namespace: Option<Word>,
     /// The binding's name, unique within the namespace, or within the cluster.
     pub name: Word,
-    /// The role that it grants.
+    /// The role that the binding grants.
     pub role: RoleRef,
-    /// The subjects that it grants the role to.
+    /// The subjects to which the binding grants the role.
     pub subjects: Subjects,
 }
 
@@ -133,10 +133,10 @@ impl Drop for Binding {
     }
 }
 
-/// Whether a subject of a binding in that namespace, or of a ClusterRoleBinding if there is none,
-/// names this principal: as the user of the subject's name, a member of its group, or the user of
-/// its service account (Using RBAC Authorization, "Referring to subjects"). An account without a
-/// namespace is in the binding's; in a ClusterRoleBinding it names nobody (own). Doesn't allocate.
+/// Whether a binding's subject names this principal: as the user of the subject's name, as a member
+/// of its group, or as the user of its service account (Using RBAC Authorization, "Referring to
+/// subjects"). `binding_namespace` is `None` for a ClusterRoleBinding. An account without a
+/// namespace takes the binding's; in a ClusterRoleBinding it names nobody (own). Doesn't allocate.
 pub fn names(subject: &Subject, binding_namespace: Option<&Word>, principal: &Principal) -> bool
     ensures { IsTrue result
         ↔ Names subject.now (option_copied binding_namespace.entry) principal.now }
@@ -151,10 +151,10 @@ pub fn names(subject: &Subject, binding_namespace: Option<&Word>, principal: &Pr
     }
 }
 
-/// The key of the principal that a subject stands for, in a binding in that namespace, or in a
-/// ClusterRoleBinding if there is none (own): an account's key is its user's. An account without a
-/// namespace is in the binding's; in a ClusterRoleBinding it stands for nobody, and nothing is
-/// allocated. Fails only if it runs out of memory.
+/// The key of the principal that a binding's subject stands for (own): an account has the key of
+/// its user. `binding_namespace` is `None` for a ClusterRoleBinding. An account without a namespace
+/// takes the binding's; in a ClusterRoleBinding it stands for nobody, and the call returns `None`
+/// and doesn't allocate. Fails only if it runs out of memory.
 pub fn subject_key(
     alloc: Global,
     subject: &Subject,
@@ -171,19 +171,16 @@ pub fn subject_key(
         Subject::User(name) => Ok(Some(user_key(alloc, name)?)),
         Subject::Group(name) => Ok(Some(member_key(alloc, name)?)),
         Subject::Account { namespace, name } => match namespace_of(namespace, binding_namespace) {
-            Some(namespace) => {
-                let user = account_user(alloc, namespace, name)?;
-                Ok(Some(user_key(alloc, &user)?))
-            }
+            Some(namespace) => Ok(Some(account_key(alloc, namespace, name)?)),
             None => Ok(None),
         },
     }
 }
 
-/// The principal that a subject stands for, in a binding in that namespace, or in a
-/// ClusterRoleBinding if there is none (own): an account's is its user. An account without a
-/// namespace is in the binding's; in a ClusterRoleBinding it stands for nobody, as does an empty
-/// name. Fails only if it runs out of memory.
+/// The principal that a binding's subject stands for (own): an account stands for its user.
+/// `binding_namespace` is `None` for a ClusterRoleBinding. An account without a namespace takes the
+/// binding's. `None` for such an account in a ClusterRoleBinding, and for an empty name. Fails only
+/// if it runs out of memory.
 pub fn subject_principal(
     alloc: Global,
     subject: &Subject,
@@ -226,7 +223,7 @@ fn member_of(alloc: Global, name: &Word) -> Result<Option<Principal>, AllocError
     }
 }
 
-// The namespace of an account: its own, or else that of the binding that names it.
+// The namespace of an account: its own, or else the binding's.
 fn namespace_of<'a>(own: &'a Option<Word>, binding_namespace: Option<&'a Word>) -> Option<&'a Word>
     ensures { option_copied result ≡ option_or own.now (option_copied binding_namespace.entry) }
 {

@@ -12,7 +12,7 @@ use std::marker::Model;
 
 /// The key of a request: the principal's key, the namespace, verb, API group, resource text or URL,
 /// and object name. A request for a URL has no namespace, API group or object name. Keys are
-/// ordered text by text in this order, each text byte by byte (own).
+/// compared text by text, in the order of this list, and texts byte by byte (own).
 pub struct Key {
     principal: Word,
     namespace: Word,
@@ -74,8 +74,8 @@ impl Key {
         )
     }
 
-    /// The key of these six texts, whether a request has them or not. Fails only if it runs out of
-    /// memory, with P5 NoMemory.
+    /// The key with these six texts, whether or not any request has this key. Fails only if it runs
+    /// out of memory, with P5 NoMemory.
     pub fn of_texts(
         principal: &Word,
         namespace: &Word,

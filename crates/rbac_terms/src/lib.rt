@@ -1,6 +1,7 @@
 //! The terms of role-based access control (texts, rules, subjects, principals, targets, selectors,
-//! keys), and what each of them matches. `rbac_model` builds policies from them and re-exports
-//! their names. Where a comment says "(own)", the rule is this project's and not one of Kubernetes.
+//! keys), and what each of them matches. `rbac_model` builds policies from these terms, and
+//! re-exports those that a user of policies needs. Where a comment says "(own)", the rule is this
+//! project's and not one of Kubernetes.
 #![tactic(auto)]
 
 mod fault;

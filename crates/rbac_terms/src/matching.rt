@@ -19,12 +19,12 @@ pub struct Rule {
     pub verbs: Words,
     /// API groups, with the core group as the empty text, or `*` for every group.
     pub groups: Words,
-    /// Resources like `pods` or `pods/log`, `*/log` for a subresource of every resource, or `*` for
-    /// all.
+    /// Resources like `pods` or `pods/log`, `*/log` for the subresource `log` of every resource, or
+    /// `*` for all.
     pub resources: Words,
-    /// Object names; an empty list stands for every name.
+    /// Object names; an empty list means every name.
     pub resource_names: Words,
-    /// URL paths; a `*` at the end of one stands for any ending.
+    /// URL paths; a `*` at the end of a path means any ending.
     pub urls: Words,
 }
 
@@ -43,25 +43,25 @@ impl Drop for Rule {
 /// The rules of a role in their written order: as many as fit in memory.
 pub type Rules = Items<Rule>;
 
-/// Whether a word of the rule matches this verb: it is `*` or the verb itself (rbac/v1 evaluation
-/// helpers, VerbMatches). Doesn't allocate.
+/// Whether one of the rule's verbs is `*` or this verb (rbac/v1 evaluation helpers, VerbMatches).
+/// Doesn't allocate.
 pub fn verb_matches(rule: &Rule, verb: &Word) -> bool
     ensures { IsTrue result ↔ Any (λ w. WordMatches w verb.now) rule.now.verbs }
 {
     some_word_matches(&rule.verbs, verb)
 }
 
-/// Whether a word of the rule matches this API group: it is `*` or the group itself (rbac/v1
-/// evaluation helpers, APIGroupMatches). The empty text is the core group. Doesn't allocate.
+/// Whether one of the rule's API groups is `*` or this group (rbac/v1 evaluation helpers,
+/// APIGroupMatches). The empty text is the core group. Doesn't allocate.
 pub fn group_matches(rule: &Rule, group: &Word) -> bool
     ensures { IsTrue result ↔ Any (λ w. WordMatches w group.now) rule.now.groups }
 {
     some_word_matches(&rule.groups, group)
 }
 
-/// Whether a word of the rule matches this resource text, like `pods` or `pods/log`: it is `*`, the
-/// text itself, or `*/` followed by the text's subresource (rbac/v1 evaluation helpers,
-/// ResourceMatches). Doesn't allocate.
+/// Whether one of the rule's resource words matches this resource text, like `pods` or `pods/log`:
+/// the word is `*`, the text itself, or `*/` followed by the text's subresource (rbac/v1 evaluation
+/// helpers, ResourceMatches). Doesn't allocate.
 pub fn resource_matches(rule: &Rule, text: &Word) -> bool
     ensures { IsTrue result ↔ Any (λ w. ResourceWordMatches w text.now) rule.now.resources }
 {
@@ -71,17 +71,16 @@ pub fn resource_matches(rule: &Rule, text: &Word) -> bool
     ))
 }
 
-/// Whether the rule's names match this object name, which is empty if the request names no object:
-/// the rule has no names, or this one is among them (rbac/v1 evaluation helpers,
-/// ResourceNameMatches). Doesn't allocate.
+/// Whether the rule has no object names, or has this one (rbac/v1 evaluation helpers,
+/// ResourceNameMatches). The name is empty if the request names no object. Doesn't allocate.
 pub fn name_matches(rule: &Rule, name: &Word) -> bool
     ensures { IsTrue result ↔ NameMatches rule.now.resource_names name.now }
 {
     rule.resource_names.is_empty() || rule.resource_names.contains(name)
 }
 
-/// Whether a word of the rule matches this URL path: it is the path itself, or it ends in `*` and
-/// the path begins with the word without its trailing stars (rbac/v1 evaluation helpers,
+/// Whether one of the rule's URL words matches this path: the word is the path itself, or ends in
+/// `*` and the path begins with the word without its trailing stars (rbac/v1 evaluation helpers,
 /// NonResourceURLMatches; more than one star: own). Doesn't allocate.
 pub fn url_matches(rule: &Rule, path: &Word) -> bool
     ensures { IsTrue result ↔ Any (λ w. UrlWordMatches w path.now) rule.now.urls }
@@ -100,8 +99,8 @@ pub fn rule_allows(rule: &Rule, verb: &Word, target: &Target) -> bool
     verb_matches(rule, verb) && target_matches(rule, target)
 }
 
-/// Whether the rule matches this target, verbs aside: a resource by API group, resource text and
-/// object name, a URL by its path (rbac/v1 evaluation helpers, RuleAllows). Doesn't allocate.
+/// Whether the rule matches this target, whatever the verb: a resource by API group, resource text
+/// and object name, a URL by its path (rbac/v1 evaluation helpers, RuleAllows). Doesn't allocate.
 pub fn target_matches(rule: &Rule, target: &Target) -> bool
     ensures { IsTrue result ↔ TargetOk rule.now target.now }
 {
@@ -167,8 +166,8 @@ fn url_word_matches(word: &[u8], path: &[u8]) -> bool
     path.starts_with(prefix)
 }
 
-/// What comes before the stars at the end of a word; `None` if it doesn't end in a star. A URL
-/// word that ends in stars matches the paths that begin with it (rbac/v1 evaluation helpers,
+/// The part of a word before all stars at its end; `None` if the word doesn't end in a star. A URL
+/// word that ends in stars matches the paths that begin with this part (rbac/v1 evaluation helpers,
 /// NonResourceURLMatches; more than one star: own). Doesn't allocate.
 pub fn before_stars(word: &[u8]) -> Option<&[u8]>
     ensures { MatchOption result (¬ EndsInStar word.now)

@@ -1,4 +1,4 @@
-//! Who asks, and for what.
+//! Principals and targets: who asks, and for what.
 
 ghost use Rattle.std.specs.Prelude.{◌≡◌, ◌≢◌, ◌++◌, ◌⊎◌, [], IsTrue, ◌↔◌, MatchBool, MatchResult};
 ghost use Rattle.std.specs.Prelude.{MatchOption, IfOk, IfErr, OnOk, OnErr, Contains};
@@ -46,8 +46,8 @@ pub const AUTHENTICATED: &[u8] = b"system:authenticated";
 pub const UNAUTHENTICATED: &[u8] = b"system:unauthenticated";
 
 /// What a request is for: a resource by API group, resource text and object name, or a URL by its
-/// path. A resource text isn't empty and doesn't begin with a slash; a URL begins with one (own,
-/// after the paths of API requests). What follows the first slash of a resource text is its
+/// path. A resource text isn't empty and doesn't begin with a slash. A URL begins with a slash
+/// (own, after the paths of API requests). What follows the first slash of a resource text is its
 /// subresource.
 pub struct Target {
     is_url: bool,
@@ -166,10 +166,10 @@ pub fn is_resource_text(text: &[u8]) -> bool
     !text.is_empty() && !is_path(text)
 }
 
-/// Who asks: a user by name, with the groups given, or a member of one group, without a name of its
-/// own. A service account asks as the user `system:serviceaccount:NAMESPACE:NAME` (Using RBAC
-/// Authorization, "Referring to subjects"; members of a group: own). Neither the user's name nor
-/// the group's is empty.
+/// Who asks: a user with a name and given groups, or an unnamed member of one group. A service
+/// account asks as the user `system:serviceaccount:NAMESPACE:NAME` (Using RBAC Authorization,
+/// "Referring to subjects"; members of a group: own). Neither the user's name nor the group's is
+/// empty.
 #[derive(Clone)]
 pub struct Principal {
     is_user: bool,
@@ -215,7 +215,7 @@ impl Principal {
         })
     }
 
-    /// A member of this group, who is in no other (own). P1 EmptyName exactly for the empty name;
+    /// A member of this group and of no other (own). P1 EmptyName exactly for the empty name;
     /// otherwise P5 NoMemory if the call runs out of memory.
     pub fn group(alloc: Global, name: &Word) -> Result<Self, ModelFault>
         ensures ok { IfOk result (λ p. p ≡ AsMember name.now) }
@@ -235,15 +235,16 @@ impl Principal {
     pub fn account(alloc: Global, namespace: &Word, name: &Word) -> Result<Self, AllocError>
         ensures { IfOk result (λ p. p ≡ account_principal namespace.now name.now) }
     {
-        let user = account_user(alloc, namespace, name)?;
-        match Principal::user(alloc, &user, &Words::new(alloc)) {
-            Ok(user) => Ok(user),
-            Err(_) => Err(AllocError),
-        }
+        Ok(Principal {
+            is_user: true,
+            key: account_key(alloc, namespace, name)?,
+            given: GivenGroups::new(alloc),
+        })
     }
 
-    /// Gives a user, in addition, the groups that another principal of the same key is given; a
-    /// member of a group is given none (own). After an error nothing has changed.
+    /// Adds to a user's given groups those of `more`, a principal with the same key; a member of a
+    /// group has no given groups (own). Fails only if it runs out of memory, and then leaves the
+    /// principal unchanged.
     pub fn give(&mut self, more: Self) -> Result<(), AllocError>
         requires { who_key more ≡ who_key self.old }
         ensures key { who_key self.new ≡ who_key self.old }
@@ -289,23 +290,24 @@ impl Principal {
         }
     }
 
-    // Whether this is the user of that name, whatever its groups. Doesn't allocate.
+    // Whether the principal is the user of this name, whatever its groups. Doesn't allocate.
     pub(crate) fn is_user_named(&self, name: &Word) -> bool
         ensures { IsTrue result ↔ IsUserNamed self.now name.now }
     {
         self.is_user && self.name() == name.as_bytes()
     }
 
-    // Whether this is the user of that service account, `system:serviceaccount:NAMESPACE:NAME`
-    // (Using RBAC Authorization, "Referring to subjects"). Doesn't allocate.
+    // Whether the principal is the user of this service account,
+    // `system:serviceaccount:NAMESPACE:NAME` (Using RBAC Authorization, "Referring to subjects").
+    // Doesn't allocate.
     pub(crate) fn is_account(&self, namespace: &Word, name: &Word) -> bool
         ensures { IsTrue result ↔ IsUserNamed self.now (account_user namespace.now name.now) }
     {
         self.is_user && is_account_user(self.name(), namespace.as_bytes(), name.as_bytes())
     }
 
-    /// The groups that a user is given besides the implied ones, in order, with repeats; a member
-    /// of a group is given none (own). Doesn't allocate.
+    /// The groups given to a user besides the implied ones, in order, with repeats; none for a
+    /// member of a group (own). Doesn't allocate.
     pub fn given(&self) -> &[Word]
         ensures { result.now ≡ given_of self.now }
     {
@@ -316,8 +318,8 @@ impl Principal {
         }
     }
 
-    /// The namespace of the service account that the principal asks as; `None` if it doesn't ask as
-    /// one (Using RBAC Authorization, "Referring to subjects"). Doesn't allocate.
+    /// The namespace of the service account whose user the principal is; `None` for any other
+    /// principal (Using RBAC Authorization, "Referring to subjects"). Doesn't allocate.
     pub fn account_namespace(&self) -> Option<&[u8]>
         ensures { MatchOption result
             ((namespace : Text) → ¬ IsAccountIn self.now namespace)
@@ -330,10 +332,10 @@ impl Principal {
         }
     }
 
-    /// The group that says whether a user has signed in: `system:authenticated` or
-    /// `system:unauthenticated` (Using RBAC Authorization); `None` for a user other than
-    /// `system:anonymous` who is given the second, and for a member of a group (own). Doesn't
-    /// allocate.
+    /// The group that shows whether a user has signed in: `system:authenticated` or
+    /// `system:unauthenticated` (Using RBAC Authorization). `None` for a user other than
+    /// `system:anonymous` who is given `system:unauthenticated`, and for a member of a group (own).
+    /// Doesn't allocate.
     pub fn sign_in_group(&self) -> Option<&'static [u8]>
         ensures { MatchOption result
             ((group : Text) → ¬ SignsInAs self.now group)
@@ -346,10 +348,10 @@ impl Principal {
         }
     }
 
-    /// Whether the principal is in this group: a user is in the groups given and in the implied
-    /// ones, which are those of service accounts, `system:authenticated` and
-    /// `system:unauthenticated` (Using RBAC Authorization); a member of a group is in that group
-    /// alone (own). Doesn't allocate.
+    /// Whether the principal is in this group. A user is in the given groups and in the implied
+    /// ones: the groups of service accounts, `system:authenticated` and `system:unauthenticated`
+    /// (Using RBAC Authorization). A member of a group is in that group alone (own). Doesn't
+    /// allocate.
     pub fn in_group(&self, group: &Word) -> bool
         ensures { IsTrue result ↔ IsInGroup self.now group.now }
     {
@@ -361,7 +363,7 @@ impl Principal {
     }
 }
 
-// The key of a principal of this name; an empty name is refused.
+// The key of a principal of this name; refuses an empty name.
 fn named_key(alloc: Global, prefix: &[u8], name: &Word) -> Result<Word, ModelFault>
     ensures ok { IfOk result (λ key. key ≡ prefix.now ++ name.now) }
     ensures empty { (result ≡ Err ModelFault.EmptyName) ↔ (name.now ≡ []) }
@@ -376,8 +378,10 @@ fn named_key(alloc: Global, prefix: &[u8], name: &Word) -> Result<Word, ModelFau
 fn with_prefix(alloc: Global, prefix: &[u8], name: &Word) -> Result<Word, AllocError>
     ensures { IfOk result (λ word. word ≡ prefix.now ++ name.now) }
 {
-    let mut word = Word::from_slice(alloc, prefix)?;
-    word.push_slice(name.as_bytes())?;
+    let name = name.as_bytes();
+    let mut word = Word::with_capacity(alloc, prefix.len() + name.len())?;
+    word.push_slice(prefix)?;
+    word.push_slice(name)?;
     Ok(word)
 }
 
@@ -400,14 +404,40 @@ pub(crate) fn member_key(alloc: Global, name: &Word) -> Result<Word, AllocError>
 pub fn account_user(alloc: Global, namespace: &Word, name: &Word) -> Result<Word, AllocError>
     ensures { IfOk result (λ user. user ≡ account_user namespace.now name.now) }
 {
-    let mut user = Word::from_slice(alloc, ACCOUNT)?;
-    user.push_slice(namespace.as_bytes())?;
-    user.push_slice(COLON)?;
-    user.push_slice(name.as_bytes())?;
-    Ok(user)
+    account_after(alloc, &[], namespace, name)
 }
 
-// The namespace of the service account whose user name this is.
+// The key of the user that a service account asks as.
+pub(crate) fn account_key(alloc: Global, namespace: &Word, name: &Word) -> Result<Word, AllocError>
+    ensures { IfOk result
+        (λ key. key ≡ who_key (AsUser (account_user namespace.now name.now) [])) }
+{
+    account_after(alloc, USER_PREFIX, namespace, name)
+}
+
+// The user name of a service account after this prefix, in a text that has room for all of it.
+fn account_after(
+    alloc: Global,
+    prefix: &[u8],
+    namespace: &Word,
+    name: &Word,
+) -> Result<Word, AllocError>
+    ensures { IfOk result (λ text. text ≡ prefix.now ++ account_user namespace.now name.now) }
+{
+    let namespace = namespace.as_bytes();
+    let name = name.as_bytes();
+    let fixed = prefix.len() + ACCOUNT.len() + COLON.len();
+    let given = namespace.len().saturating_add(name.len());
+    let mut text = Word::with_capacity(alloc, fixed.saturating_add(given))?;
+    text.push_slice(prefix)?;
+    text.push_slice(ACCOUNT)?;
+    text.push_slice(namespace)?;
+    text.push_slice(COLON)?;
+    text.push_slice(name)?;
+    Ok(text)
+}
+
+// The namespace of the service account with this user name; `None` for any other user name.
 fn account_namespace(user: &[u8]) -> Option<&[u8]>
     ensures { MatchOption result
         ((namespace : Text) → ¬ IsAccountOf user.now namespace)
@@ -477,7 +507,7 @@ fn is_sign_in_group(user: &[u8], given: &GivenGroups, group: &[u8]) -> bool
     }
 }
 
-// The group that says whether this user has signed in.
+// The group that shows whether this user has signed in, if there is one.
 fn sign_in_group(user: &[u8], given: &GivenGroups) -> Option<&'static [u8]>
     ensures { MatchOption result
         ((group : Text) → ¬ IsSignInGroup user.now given.now group)

@@ -6,7 +6,7 @@ use crate::text::Word;
 pub enum Scope {
     /// Anywhere: wherever a binding may be live.
     Anywhere,
-    /// In this namespace; the empty one stands for the whole cluster.
+    /// In this namespace; the empty namespace is the whole cluster.
     Namespace(Word),
     /// In the whole cluster at once, where ClusterRoleBindings alone are live.
     ClusterWide,

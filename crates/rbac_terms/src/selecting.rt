@@ -1,4 +1,4 @@
-//! Labels, and what selects by them.
+//! Labels, and selectors by labels.
 
 ghost use Rattle.std.specs.Prelude.{IsTrue, ◌↔◌, All};
 ghost use Rattle.rbac_terms.specs.Selecting.{Selects, Meets, HasLabel, HasLabelKey, HasOneOf};
@@ -27,9 +27,9 @@ pub enum SelectOp {
 pub struct Requirement {
     /// The label's key.
     pub key: Word,
-    /// What is asked of it.
+    /// What the requirement asks of the key.
     pub op: SelectOp,
-    /// The values that `OneOf` and `NoneOf` list; `Present` and `Absent` don't look at them.
+    /// The values that `OneOf` and `NoneOf` compare with; `Present` and `Absent` ignore them.
     pub values: Words,
 }
 
@@ -39,15 +39,15 @@ impl Drop for Requirement {
     }
 }
 
-/// A list of requirements, all to be met: as many as fit in memory.
+/// A list of requirements that must all be met: as many as fit in memory.
 pub type Requirements = Items<Requirement>;
 
-/// A label selector, which asks for everything that it lists; the empty one selects everything
-/// (Labels and Selectors).
+/// A label selector. An object has to have all of its labels and meet all of its requirements; the
+/// empty selector selects every object (Labels and Selectors).
 pub struct Selector {
     /// `matchLabels`: labels that an object must have.
     pub labels: Labels,
-    /// `matchExpressions`: requirements that its labels must meet.
+    /// `matchExpressions`: requirements that the object's labels must meet.
     pub requirements: Requirements,
 }
 
@@ -60,11 +60,11 @@ impl Drop for Selector {
     }
 }
 
-/// The selectors of an aggregated cluster role, which together select what any of them selects
-/// (Using RBAC Authorization, "Aggregated ClusterRoles"): as many as fit in memory.
+/// The selectors of an aggregated cluster role: as many as fit in memory. It is enough if one of
+/// them selects a role (Using RBAC Authorization, "Aggregated ClusterRoles").
 pub type Selectors = Items<Selector>;
 
-/// Whether the selector selects an object with these labels: they contain each label of the
+/// Whether the selector selects an object with these labels: the labels contain each label of the
 /// selector and meet each of its requirements (Labels and Selectors). Doesn't allocate.
 pub fn selects(selector: &Selector, labels: &Labels) -> bool
     ensures { IsTrue result ↔ Selects selector.now labels.now }

@@ -1,4 +1,4 @@
-//! Texts in byte order, so that one of them is found by halving.
+//! Texts in byte order, for binary search.
 
 ghost use Rattle.std.specs.Prelude.{◌↔◌, IsTrue, IfOk, Contains};
 ghost use Rattle.std.specs.List.Sorted.{IsSorted};

@@ -11,10 +11,10 @@ use std::alloc::{AllocError, Global};
 use std::cmp::Ordering;
 use std::marker::Model;
 
-// The most bytes that a text can have without an allocation.
+// Up to this many bytes, a text needs no allocation.
 const INLINE: usize = 24;
 
-// The most bytes that a text can have without its copies sharing them.
+// Copies of a text that has more bytes than this may share them.
 const MOST_COPIED: usize = 1_024;
 
 /// A text of a manifest or of a request, like a name, a verb or an API group: any bytes, as many as
@@ -29,15 +29,16 @@ pub struct Word {
 // Where the bytes of a text are.
 #[derive(Debug)]
 enum Held {
-    // Most texts are short and are kept in the value itself: no allocation and no indirection.
+    // The text's own bytes. Most texts are short, so they are in the value itself, without an
+    // allocation.
     Own(SmallVec<u8, INLINE>),
-    // A name of a megabyte may be in thousands of targets. The allocator is for the text's own
-    // copy, which is made when bytes are added.
+    // Bytes that copies share, since a name of a megabyte may be in thousands of targets. When
+    // bytes are added, the text gets a copy of its own, made with the allocator.
     Shared(Bytes, Global),
 }
 
-// Written by hand, because a derived drop is split into its cases wherever a text is dropped: two
-// for each text, in each proof.
+// Written by hand, because the prover splits a derived drop into its two cases wherever a text is
+// dropped.
 impl Drop for Held {
     fn drop(self) {
         match self {
@@ -64,6 +65,16 @@ impl Word {
         Word {
             held: Held::Own(SmallVec::new(alloc)),
         }
+    }
+
+    // The empty text, with room for this many bytes. Fails only if it runs out of memory.
+    pub(crate) fn with_capacity(alloc: Global, capacity: usize) -> Result<Self, AllocError>
+        ensures { IfOk result (λ w. w ≡ []) }
+    {
+        let own = SmallVec::with_capacity(alloc, capacity)?;
+        Ok(Word {
+            held: Held::Own(own),
+        })
     }
 
     /// A copy of these bytes. Fails only if it runs out of memory.
@@ -121,7 +132,7 @@ impl Word {
     }
 }
 
-// The bytes of both, the second after the first.
+// The prefix, followed by the rest.
 fn joined(alloc: Global, prefix: &[u8], rest: &[u8]) -> Result<SmallVec<u8, INLINE>, AllocError>
     ensures { IfOk result (λ both. both.items ≡ prefix.now ++ rest.now) }
 {

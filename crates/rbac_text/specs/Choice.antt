@@ -5,7 +5,8 @@ use Rattle.rbac_terms.specs.Text.{Text, star}
 use Rattle.rbac_text.specs.Field.{field_text, code_text}
 use Rattle.rbac_text.specs.Row.{tab}
 
--- any name or namespace is printed as `*`, one that is called `*` by its code, and others as fields
+-- without a name or namespace, any is meant and `*` is printed; the name `*` is printed by its
+-- code, and any other name as a field
 abbrev pub choice_text : Option Text → Text
 choice_text None = codes "*"
 choice_text (Some name) = if bytes_eq name (codes "*") then code_text star else field_text name

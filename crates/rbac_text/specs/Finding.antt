@@ -6,7 +6,7 @@ use Rattle.rbac_text.specs.Field.{field_text}
 use Rattle.rbac_text.specs.Row.{tab, newline, field_and_tab}
 use Rattle.rbac_text.specs.Why.{place_text}
 
--- what a finding of that code is called; any other number has no word
+-- the word for a finding's code; any other number has no word
 unfoldable pub finding_word : ℕ → Text
 finding_word code =
     if code == 1 then codes "dangling-role"

@@ -6,10 +6,11 @@ use Rattle.rbac_terms.specs.Keys.{KeyTexts, texts}
 use Rattle.rbac_terms.specs.declared.granting.Binding.{Binding}
 use Rattle.rbac_text.specs.Field.{field_text}
 
--- the byte that ends a field, and the one that ends a line
+-- the byte that ends a field
 abbrev pub tab : ℕ
 tab = 9
 
+-- the byte that ends a line
 abbrev pub newline : ℕ
 newline = 10
 

@@ -34,8 +34,8 @@ rule_text r =
     list_and_tab r.verbs ++ list_and_tab r.groups ++ list_and_tab r.resources
     ++ list_and_tab r.resource_names ++ list_text r.urls
 
--- the line of a rule that somebody has by a grant, through the subject at that place: why they have
--- it, and the rule, joined by a tab
+-- the line of a rule that a grant gives through the subject at that place: the reason and the rule,
+-- joined by a tab
 abbrev pub grant_text : GrantView → ℕ → Text
 grant_text g subject =
     reason_text g.binding g.rule.source g.rule.place subject

@@ -16,8 +16,8 @@ role_text namespace name = field_text (codes "Role/" ++ namespace ++ codes "/" +
 abbrev pub cluster_role_text : Text → Text
 cluster_role_text name = field_text (codes "ClusterRole/" ++ name)
 
--- the role that a binding in that namespace names; a Role named without a namespace has the empty
--- one
+-- the role that a binding in that namespace, or in none, names; a Role that a ClusterRoleBinding
+-- names has the empty namespace
 abbrev pub named_text : Option Text → RoleRef → Text
 named_text namespace (Role name) = role_text (unwrap_or namespace []) name
 named_text namespace (ClusterRole name) = cluster_role_text name
@@ -31,7 +31,7 @@ source_text (InClusterRole r) = cluster_role_text r.name
 abbrev pub place_text : ℕ → Text
 place_text place = decimal (place + 1)
 
--- the role that a binding names and the one where a rule is written, joined by a tab
+-- the role that a binding names and the role where a rule is written, joined by a tab
 abbrev pub roles_text : Binding → Source → Text
 roles_text b source = named_text b.namespace b.role ++ tab ∷ source_text source
 
@@ -39,15 +39,15 @@ roles_text b source = named_text b.namespace b.role ++ tab ∷ source_text sourc
 abbrev pub places_text : ℕ → ℕ → Text
 places_text rule subject = place_text rule ++ tab ∷ place_text subject
 
--- what explains a yes: the binding, its roles, and the places, joined by tabs
+-- the reason for a yes: the binding, both roles, and both places, joined by tabs
 abbrev pub reason_text : Binding → Source → ℕ → ℕ → Text
 reason_text b source rule subject =
     binding_text b ++ tab ∷ roles_text b source ++ tab ∷ places_text rule subject
 
--- the line that explains a yes
+-- the line with the reason for a yes
 abbrev pub why_text : Binding → Source → ℕ → ℕ → Text
 why_text b source rule subject = reason_text b source rule subject ++ newline ∷ []
 
--- the line of a holder with the reason: its key, and what explains a yes
+-- the line of a holder: its key, and the reason for the permission
 abbrev pub holder_why_text : Text → Binding → Source → ℕ → ℕ → Text
 holder_why_text key b source rule subject = field_and_tab key ++ why_text b source rule subject

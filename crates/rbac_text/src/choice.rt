@@ -1,4 +1,4 @@
-//! Fields in which any name or namespace can be meant.
+//! Fields with a name or a namespace, or with `*` for any.
 
 ghost use Rattle.std.specs.Prelude.{◌≡◌, ◌++◌, OnOk};
 ghost use Rattle.std.specs.Option.{option_copied};
@@ -8,9 +8,9 @@ use crate::row::put_field_and_tab;
 use rbac_terms::Word;
 use std::alloc::AllocError;
 
-/// Adds a namespace or an object name as a field, or `*` where any is meant, and the tab after it
-/// (own); what is called `*` is printed by its code. If it runs out of memory, a prefix of them may
-/// have been added.
+/// Adds a namespace or an object name as a field, or `*` for any if there is none, and a tab after
+/// it (own). The name `*` is printed by its code, `\x2a`. If it runs out of memory, a prefix of
+/// both may have been added.
 pub fn put_choice_and_tab(line: &mut Vec<u8>, name: Option<&Word>) -> Result<(), AllocError>
     ensures { OnOk result
         (line.new.items ≡ line.old.items ++ choice_and_tab (option_copied name.entry)) }

@@ -13,9 +13,10 @@ use itoa::Buffer;
 use rbac_terms::Word;
 use std::alloc::AllocError;
 
-/// Adds the line of a finding (own): its code and the word for it, the object, the place counted
-/// from 1, and the last field, joined by tabs, with a newline at the end. If it runs out of memory,
-/// a prefix of the line may have been added.
+/// Adds the line of a finding (own): its code, the word for the code, the object, the place, and
+/// the last field `other`, joined by tabs, with a newline at the end. `place` counts from 0 and is
+/// printed as counted from 1; without a place, the field is empty. If it runs out of memory, a
+/// prefix of the line may have been added.
 pub fn put_finding(
     line: &mut Vec<u8>,
     code: u8,
@@ -32,7 +33,7 @@ pub fn put_finding(
     put_rest(line, other)
 }
 
-// Adds the code of a finding and the word for it.
+// Adds the code of a finding and the word for the code, each with a tab after it.
 fn put_code(line: &mut Vec<u8>, code: u8) -> Result<(), AllocError>
     ensures { OnOk result
         (line.new.items

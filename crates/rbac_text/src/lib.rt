@@ -1,5 +1,5 @@
-//! How keys and objects are printed: each field in one spelling, in which tabs, line ends and the
-//! empty text can be told apart.
+//! How keys and objects are printed. Each field has one spelling, which distinguishes tabs, line
+//! ends and the empty text.
 #![tactic(auto)]
 
 mod choice;

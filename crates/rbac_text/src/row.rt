@@ -21,7 +21,7 @@ pub fn put_binding(line: &mut Vec<u8>, binding: &Binding) -> Result<(), AllocErr
     put_text(line, binding.name.as_bytes())
 }
 
-// Adds what comes before a binding's name.
+// Adds the part of a binding's field before the name: its kind and namespace.
 fn put_scope(line: &mut Vec<u8>, namespace: Option<&Word>) -> Result<(), AllocError>
     ensures { OnOk result (line.new.items
         ≡ line.old.items ++ flat_map byte_text (binding_scope (option_copied namespace.entry))) }
@@ -46,8 +46,8 @@ pub(crate) fn put_kind(line: &mut Vec<u8>, kind: &str) -> Result<(), AllocError>
     Ok(())
 }
 
-/// Adds a field, as `put_field` does, and the tab after it (own). If it runs out of memory, a
-/// prefix of them may have been added.
+/// Adds a field, as `put_field` does, and a tab after it (own). If it runs out of memory, a prefix
+/// of both may have been added.
 pub fn put_field_and_tab(line: &mut Vec<u8>, field: &[u8]) -> Result<(), AllocError>
     ensures { OnOk result (line.new.items ≡ line.old.items ++ field_and_tab field.now) }
 {

@@ -13,7 +13,7 @@ use rbac_model::Grant;
 use rbac_terms::{Rule, Word, Words};
 use std::alloc::AllocError;
 
-// What stands between the words of a list.
+// The separator of the words of a list.
 const COMMA: u8 = b',';
 
 /// Adds a rule (own): its verbs, API groups, resources, object names and URLs, as five fields
@@ -29,9 +29,9 @@ pub fn put_rule(line: &mut Vec<u8>, rule: &Rule) -> Result<(), AllocError>
     put_list(line, &rule.urls)
 }
 
-/// Adds the line of a rule that somebody has by a grant, through the subject at this place (own):
-/// the fields of `put_why`, and the rule, joined by tabs, with a newline at the end. If it runs out
-/// of memory, a prefix of the line may have been added.
+/// Adds the line of a rule that a grant gives through the subject at this place, counted from 0
+/// (own): the fields of `put_why`, and the rule, joined by tabs, with a newline at the end. If it
+/// runs out of memory, a prefix of the line may have been added.
 pub fn put_grant(
     line: &mut Vec<u8>,
     grant: Grant<'_>,
@@ -101,7 +101,7 @@ fn put_item(line: &mut Vec<u8>, word: &Word) -> Result<(), AllocError>
     ensures { OnOk result (line.new.items ≡ line.old.items ++ item_text word.now) }
 {
     let text = word.as_bytes();
-    // Nearly no word has a comma.
+    // Almost no word has a comma.
     if has_comma(text) {
         put_escaped(line, text)
     } else {

@@ -21,7 +21,8 @@ pub fn put_role(line: &mut Vec<u8>, namespace: &Word, name: &Word) -> Result<(),
     put_role_in(line, namespace.as_bytes(), name)
 }
 
-// Adds the name of a role of a namespace; a Role named without a namespace has the empty one.
+// Adds the name of a role of a namespace; the namespace is empty for a Role that a
+// ClusterRoleBinding names.
 fn put_role_in(line: &mut Vec<u8>, namespace: &[u8], name: &Word) -> Result<(), AllocError>
     ensures { OnOk result (line.new.items ≡ line.old.items ++ role_text namespace.now name.now) }
 {
@@ -40,8 +41,8 @@ fn put_cluster_role(line: &mut Vec<u8>, name: &Word) -> Result<(), AllocError>
     put_text(line, name.as_bytes())
 }
 
-/// Adds a place, given as counted from 0, as one field (own): counted from 1, in decimal digits. If
-/// it runs out of memory, nothing is added.
+/// Adds a place as one field (own): `place` counts from 0, and is printed as counted from 1, in
+/// decimal digits. If it runs out of memory, nothing is added.
 pub fn put_place(line: &mut Vec<u8>, place: usize) -> Result<(), AllocError>
     ensures added { OnOk result (line.new.items ≡ line.old.items ++ place_text place) }
     ensures kept { OnErr result (line.new.items ≡ line.old.items) }
@@ -53,9 +54,10 @@ pub fn put_place(line: &mut Vec<u8>, place: usize) -> Result<(), AllocError>
 }
 
 /// Adds the line that explains why a request is allowed (own): the binding that grants it, the role
-/// that this binding names, the role where the rule is written, and the places of the rule there
-/// and of the subject in the binding, joined by tabs, with a newline at the end. If it runs out of
-/// memory, a prefix of the line may have been added.
+/// that this binding names, the role where the rule is written, the place of the rule in that role,
+/// and the place of the subject in the binding, joined by tabs, with a newline at the end. Both
+/// places count from 0, and are printed as counted from 1. If it runs out of memory, a prefix of
+/// the line may have been added.
 pub fn put_why(
     line: &mut Vec<u8>,
     binding: &Binding,
@@ -98,7 +100,7 @@ pub(crate) fn put_tab(line: &mut Vec<u8>) -> Result<(), AllocError>
     Ok(())
 }
 
-// Adds the role that a binding names, and the one where the rule is written.
+// Adds the role that a binding names, and the role where the rule is written.
 fn put_roles(
     line: &mut Vec<u8>,
     binding: &Binding,

@@ -10,15 +10,15 @@ use Rattle.rbac_token.specs.declared.fault.TokenFault.{TokenFault}
 use Rattle.rbac_token.specs.declared.fault.TokenFault.TheVariants.{NotBase64, BadVersion}
 use Rattle.rbac_token.specs.declared.fault.TokenFault.TheVariants.{NotCanonical, NoMemory}
 
--- the number and name of a refusal (own); out of memory has no number there
+-- how a fault is printed: the number and name of the refusal; out of memory without a number (own)
 abbrev pub fault_text : TokenFault → List ℕ
 fault_text NotBase64 = codes "K1 not base64"
 fault_text BadVersion = codes "K2 bad version"
 fault_text NotCanonical = codes "K3 not canonical"
 fault_text NoMemory = codes "out of memory"
 
--- why a token is refused (own): it isn't unpadded URL-safe base64; otherwise its version is
--- another; otherwise nothing is printed as its bytes; out of memory may come at any time
+-- why a token is refused (own): it isn't unpadded URL-safe base64; otherwise it has another
+-- version; otherwise nothing is printed as its bytes; memory may run out at any time
 abbrev pub IsRefusal : (Text → Type 0) → Type 0 → Text → TokenFault → Type 0
 IsRefusal IsVersion none token NotBase64 = (bytes : Text) → ¬ Encodes token bytes
 IsRefusal IsVersion none token BadVersion = (bytes : Text) × Encodes token bytes
@@ -27,29 +27,31 @@ IsRefusal IsVersion none token NotCanonical = (bytes : Text) × Encodes token by
     × none
 IsRefusal IsVersion none token NoMemory = Unit {0}
 
--- why a token stands for no key: the version is not `1`, or no key is printed so
+-- why a token is refused as a key's, by the order above: it isn't base64, its version isn't `1`, or
+-- no key has the token
 abbrev pub IsTokenFault : Text → TokenFault → Type 0
 IsTokenFault token fault =
     IsRefusal HasKeyVersion ((k : KeyTexts) → ¬ IsTokenOf token k) token fault
 
--- why a token stands for no mark: the version is neither `1` nor `2`, or no mark is printed so
+-- why a token is refused as a mark's, by the order above: it isn't base64, its version is neither
+-- `1` nor `2`, or no mark has the token
 abbrev pub IsMarkFault : Text → TokenFault → Type 0
 IsMarkFault token fault =
     IsRefusal HasMarkVersion ((m : Mark) → ¬ IsTokenOfMark token m) token fault
 
--- a principal or a target that can't be made has no token
+-- why a token is refused if its principal or its target can't be made
 abbrev pub token_fault : ModelFault → TokenFault
 token_fault model.EmptyName = NotCanonical
 token_fault model.BadTarget = NotCanonical
 token_fault model.NoMemory = NoMemory
 
--- a text is refused with K3 only for this reason; out of memory may come at any time
+-- a text is refused with K3 only for this reason; memory may run out at any time
 abbrev pub RefusesIf : Type 0 → TokenFault → Type 0
 RefusesIf reason NotBase64 = ⊥
 RefusesIf reason BadVersion = ⊥
 RefusesIf reason NotCanonical = reason
 RefusesIf reason NoMemory = Unit {0}
 
--- the refusals that reading printed fields may end in
+-- how reading printed fields may fail: with K3, or out of memory
 abbrev pub IsReadFault : TokenFault → Type 0
 IsReadFault fault = (fault ≡ NotCanonical) ⊎ (fault ≡ NoMemory)

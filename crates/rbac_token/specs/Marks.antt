@@ -10,7 +10,7 @@ use Rattle.rbac_token.specs.Token.{Encodes, HasVersion, IsKey, after_tab}
 use Rattle.rbac_token.specs.declared.mark.BindingName.{BindingName}
 use Rattle.rbac_token.specs.declared.mark.Mark.{Mark}
 
--- the version of a mark's token: `1`, like that of its key, or with a binding `2`
+-- the version of a mark's token: `1`, as for its key, or `2` with a binding
 abbrev pub version_of : Option BindingName → Text
 version_of None = codes "1"
 version_of (Some b) = codes "2"
@@ -21,7 +21,8 @@ abbrev pub name_texts : Option BindingName → List Text
 name_texts None = []
 name_texts (Some b) = binding_name_at b.namespace b.name
 
--- the version, the six printed fields of a key and the three of a binding's name, joined by tabs
+-- the version, the six printed fields of a key and, with a binding, the three of its name, joined
+-- by tabs
 abbrev pub printed_mark : KeyTexts → Option BindingName → Text
 printed_mark k b = version_of b ++ flat_map after_tab (texts k ++ name_texts b)
 
@@ -29,15 +30,14 @@ printed_mark k b = version_of b ++ flat_map after_tab (texts k ++ name_texts b)
 abbrev pub mark_text : Mark → Text
 mark_text m = encode_of url_safe_no_pad (printed_mark m.key m.binding)
 
--- the bytes are this mark as it is printed, with the key of a request, and with any binding's name
--- or none
+-- the bytes are this mark, printed; its key is one of a request, its binding any or none
 abbrev pub IsMarkPrintedAs : Text → Mark → Type 0
 IsMarkPrintedAs bytes m = IsKey m.key × (bytes ≡ printed_mark m.key m.binding)
 
--- the token is that of this mark
+-- this mark has the token
 abbrev pub IsTokenOfMark : Text → Mark → Type 0
 IsTokenOfMark token m = IsKey m.key × Encodes token (printed_mark m.key m.binding)
 
--- what comes before the first tab, or everything if there is no tab, is the version `1` or `2`
+-- the bytes before the first tab, or all bytes if there is no tab, are the version `1` or `2`
 abbrev pub HasMarkVersion : Text → Type 0
 HasMarkVersion bytes = HasVersion (codes "1") bytes ⊎ HasVersion (codes "2") bytes

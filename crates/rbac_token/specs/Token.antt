@@ -26,7 +26,7 @@ token_text k = encode_of url_safe_no_pad (printed_key k)
 abbrev pub HasName : Who → Type 0
 HasName who = who_name who ≢ []
 
--- `u:` or `g:` and a name
+-- the text is the key of a principal: `u:` or `g:` and a name
 abbrev pub IsWhoKey : Text → Type 0
 IsWhoKey key = (who : Who) × HasName who × (key ≡ who_key who)
 
@@ -45,14 +45,14 @@ pub record IsKey (k : KeyTexts) : Type 0 where
 abbrev pub Encodes : Text → Text → Type 0
 Encodes token bytes = IsBytes bytes × (token ≡ encode_of url_safe_no_pad bytes)
 
--- the token is that of this key
+-- this key has the token
 abbrev pub IsTokenOf : Text → KeyTexts → Type 0
 IsTokenOf token k = IsKey k × Encodes token (printed_key k)
 
--- what comes before the first tab, or everything if there is no tab, is that version
+-- the bytes before the first tab, or all bytes if there is no tab, are that version
 abbrev pub HasVersion : Text → Text → Type 0
 HasVersion version bytes = (bytes ≡ version) ⊎ BeginsWith bytes (version ++ tab ∷ [])
 
--- a text has the version `1`, as the token of a key does
+-- the bytes have the version `1`, as a key's do
 abbrev pub HasKeyVersion : Text → Type 0
 HasKeyVersion bytes = HasVersion (codes "1") bytes

@@ -7,16 +7,16 @@ use std::alloc::{AllocError, AllocFailed};
 use std::error::Error;
 use std::fmt;
 
-/// Why a text isn't the token of a key or of a mark (own). The fault's text is the number and name
-/// of the refusal; out of memory has no number there.
+/// Why a text isn't the token of a key or of a mark (own). A fault is printed as the refusal's
+/// number and name; out of memory is printed without a number.
 #[derive(Debug, Drop, Clone, Copy, PartialEq, Eq)]
 pub enum TokenFault {
-    /// K1: it isn't unpadded URL-safe base64.
+    /// K1: the text isn't unpadded URL-safe base64.
     NotBase64,
-    /// K2: what comes before the first tab of its bytes, or all of them if there is no tab, isn't a
+    /// K2: the encoded bytes before the first tab, or all bytes if there is no tab, aren't a
     /// version: a key's token has `1`, and a mark's `1` or `2`.
     BadVersion,
-    /// K3: no key or mark is printed like this.
+    /// K3: no key or mark is printed as these bytes.
     NotCanonical,
     /// K4: out of memory.
     NoMemory,

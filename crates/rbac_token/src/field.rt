@@ -1,4 +1,4 @@
-//! Fields read back.
+//! Reads printed fields back.
 
 ghost use Rattle.std.specs.Prelude.{◌≡◌, ◌<◌, ◌++◌, ℕ, [], length, IfOk, IfSome, IfNone, IsSomeAnd};
 ghost use Rattle.rbac_terms.specs.Text.{Text};
@@ -7,8 +7,8 @@ ghost use Rattle.rbac_text.specs.Field.{hex_digit, code_text, byte_text, field_t
 use rbac_terms::Word;
 use std::alloc::{AllocError, Global};
 
-// The text whose field this is. Bytes that no text is printed as may give any text: printing it
-// again reveals that.
+// The text that is printed as this field. If there is no such text, the result may be any text: the
+// caller prints it again to find that out.
 pub(crate) fn read_field(alloc: Global, field: &[u8]) -> Result<Word, AllocError>
     ensures { (text : Text) → field.now ≡ field_text text → IfOk result (λ read. read ≡ text) }
 {
@@ -24,7 +24,7 @@ pub(crate) fn read_field(alloc: Global, field: &[u8]) -> Result<Word, AllocError
     Ok(text)
 }
 
-// The byte whose printed form comes first, and what follows that form.
+// The first byte of the field's text, and the rest of the field.
 fn next_byte(field: &[u8]) -> Option<(u8, &[u8])>
     ensures stands { (byte : ℕ) (rest : Text) → field.now ≡ byte_text byte ++ rest
         → IsSomeAnd result (λ found. (found.0 ≡ byte) × (found.1.now ≡ rest)) }

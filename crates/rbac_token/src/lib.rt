@@ -1,5 +1,5 @@
-//! Tokens: a key, or a key and a binding, as one word, from which a listing continues. Each has one
-//! spelling.
+//! Tokens: a key, or a key and a binding's name, as one word, after which a listing continues. Each
+//! key has one token, and so has each key with a binding's name.
 #![tactic(auto)]
 
 mod fault;

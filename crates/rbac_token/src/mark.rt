@@ -3,12 +3,12 @@
 use rbac_terms::{Key, Word};
 
 /// Where a listing continues (own): after all rows of the key's request or, with a binding, after
-/// that binding's row of the request. The key and the binding may be in the listing or not.
+/// that binding's row of the request. The listing needn't contain the key or the binding.
 #[derive(Drop)]
 pub struct Mark {
     /// The key of the request.
     pub key: Key,
-    /// The name of the binding; `None` stands for all bindings of the request.
+    /// The name of the binding; `None` means all bindings of the request.
     pub binding: Option<BindingName>,
 }
 
@@ -16,7 +16,7 @@ pub struct Mark {
 /// ones.
 #[derive(Drop)]
 pub struct BindingName {
-    /// The namespace of a RoleBinding; a ClusterRoleBinding has none.
+    /// The namespace of a RoleBinding; `None` for a ClusterRoleBinding.
     pub namespace: Option<Word>,
     /// The binding's name.
     pub name: Word,

@@ -15,7 +15,7 @@ use std::alloc::{AllocError, Global};
 // How many texts a key has.
 pub(crate) const TEXTS: usize = 6;
 
-// The version, the printed fields of a key, and those of a binding's name if there is one.
+// The version, the printed fields of a key, and, if there is a binding, those of its name.
 pub(crate) fn print_mark(
     alloc: Global,
     key: &Key,

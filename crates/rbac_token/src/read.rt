@@ -1,4 +1,4 @@
-//! Marks read back from their printed fields.
+//! Reads marks back from their printed fields.
 
 ghost use Rattle.std.specs.Prelude.{◌≡◌, ◌==◌, List, [], ◌∷◌, ◌++◌, Option, Some, map, IfOk, IfErr};
 ghost use Rattle.std.specs.Prelude.{IsSomeAnd, MatchResult, OnOk};
@@ -22,7 +22,7 @@ use crate::print::TEXTS;
 use rbac_terms::{Key, ModelFault, Principal, ROLE_BINDING, Target, Word, Words, is_path};
 use std::alloc::{AllocError, Global};
 
-// The mark that is printed as these bytes. Bytes that no mark is printed as may give any mark, or
+// The mark that is printed as these bytes. If there is no such mark, the result may be any mark, or
 // K3.
 pub(crate) fn read_mark(alloc: Global, bytes: &[u8]) -> Result<Mark, TokenFault>
     ensures whole { (m : Mark) → IsKey m.key → bytes.now ≡ printed_mark m.key m.binding
@@ -62,7 +62,7 @@ fn after_version(texts: &[Word]) -> Option<(&[Word], &[Word])>
     }
 }
 
-// The name of a binding that these texts are; `None` if there are no texts.
+// The name of a binding from its three texts; `None` if there are no texts.
 fn binding_of_texts(texts: &[Word]) -> Result<Option<BindingName>, TokenFault>
     ensures whole { (b : Option BindingName) → texts.now ≡ name_texts b
         → MatchResult result (λ read. read ≡ b) (λ e. e ≡ TokenFault.NoMemory) }
@@ -75,8 +75,9 @@ fn binding_of_texts(texts: &[Word]) -> Result<Option<BindingName>, TokenFault>
     }
 }
 
-// The name of a binding of this kind. Any other kind word is taken for a ClusterRoleBinding's, and
-// a ClusterRoleBinding's namespace is ignored: printing the name again reveals both.
+// The name of a binding of this kind. Any kind word but a RoleBinding's counts as a
+// ClusterRoleBinding's, and a ClusterRoleBinding's namespace is ignored. The caller prints the name
+// again to find both out.
 fn name_of(kind: &Word, namespace: &Word, name: &Word) -> Result<BindingName, AllocError>
     ensures { (b : BindingName) → kind.now ∷ namespace.now ∷ name.now ∷ [] ≡ name_texts (Some b)
         → IfOk result (λ read. read ≡ b) }
@@ -106,7 +107,7 @@ fn key_of_texts(alloc: Global, texts: &[Word]) -> Result<Key, TokenFault>
     key_for(alloc, principal, namespace, verb, &target)
 }
 
-// The key of the principal with this key, a namespace, a verb and a target.
+// The key of a request, from the principal's key, a namespace, a verb and a target.
 fn key_for(
     alloc: Global,
     principal: &Word,
@@ -126,7 +127,7 @@ fn key_for(
     Ok(Key::of(alloc, &principal, namespace, verb, target)?)
 }
 
-// The texts whose fields are between the tabs.
+// The texts that are printed between the tabs.
 fn texts_of(alloc: Global, bytes: &[u8]) -> Result<Vec<Word>, AllocError>
     ensures { (texts : List Text)
         → slice_split (λ byte. byte == tab) bytes.now ≡ map field_text texts
@@ -139,7 +140,7 @@ fn texts_of(alloc: Global, bytes: &[u8]) -> Result<Vec<Word>, AllocError>
     Ok(texts)
 }
 
-// Adds the text whose field this is.
+// Adds the text that is printed as this field.
 fn push_text(alloc: Global, field: &[u8], texts: &mut Vec<Word>) -> Result<(), AllocError>
     ensures { (text : Text) → field.now ≡ field_text text
         → OnOk result (texts.new.items ≡ texts.old.items ++ text ∷ []) }
@@ -148,7 +149,7 @@ fn push_text(alloc: Global, field: &[u8], texts: &mut Vec<Word>) -> Result<(), A
     Ok(())
 }
 
-// What is between the tabs.
+// The fields between the tabs.
 fn fields_of(alloc: Global, bytes: &[u8]) -> Result<Vec<&[u8]>, AllocError>
     ensures { IfOk result (λ v. map (λ field. field.now) v.items
         ≡ slice_split (λ byte. byte == tab) bytes.now) }
@@ -184,8 +185,7 @@ fn member_of(alloc: Global, name: &[u8]) -> Result<Principal, TokenFault>
     Ok(Principal::group(alloc, &name)?)
 }
 
-// The target of these texts. A URL has no API group or object name: what is given for them is
-// ignored.
+// The target of these texts. A URL has no API group and no object name, so both texts are ignored.
 fn target_of(alloc: Global, group: &Word, text: &Word, name: &Word) -> Result<Target, ModelFault>
     ensures whole { (t : What) → IsProper t → group.now ≡ group_of t → text.now ≡ text_of t
         → name.now ≡ name_of t

@@ -42,10 +42,10 @@ pub fn token_of_mark(alloc: Global, mark: &Mark) -> Result<Word, TokenFault>
     Ok(encoded(alloc, printed.as_slice())?)
 }
 
-/// The key whose token this is (own). K1 NotBase64 if it isn't unpadded URL-safe base64, in which
-/// each sequence of bytes has one spelling; otherwise K2 BadVersion if what comes before the first
-/// tab of its bytes, or all of them if there is no tab, isn't `1`; otherwise K3 NotCanonical if it
-/// isn't the token of any key. K4 NoMemory only if the call runs out of memory.
+/// The key that has this token (own). K1 NotBase64 if the text isn't unpadded URL-safe base64, in
+/// which each sequence of bytes has one spelling. Otherwise K2 BadVersion if the encoded bytes
+/// before the first tab, or all bytes if there is no tab, aren't `1`. Otherwise K3 NotCanonical if
+/// no key has this token. K4 NoMemory only if the call runs out of memory.
 pub fn key_of_token(alloc: Global, token: &Word) -> Result<Key, TokenFault>
     ensures key { MatchResult result (IsTokenOf token.now) (IsTokenFault token.now) }
     ensures no_key { IfErr result (λ e. (e ≡ TokenFault.NoMemory)
@@ -59,10 +59,10 @@ pub fn key_of_token(alloc: Global, token: &Word) -> Result<Key, TokenFault>
     Ok(mark_printed_as(alloc, &bytes)?.key)
 }
 
-/// The mark whose token this is (own), that of a key or that of a key and a binding. K1 NotBase64
-/// as for a key; otherwise K2 BadVersion if what comes before the first tab of its bytes, or all of
-/// them if there is no tab, is neither `1` nor `2`; otherwise K3 NotCanonical if it isn't the token
-/// of any mark, for example with another kind word, or with a ClusterRoleBinding in a namespace. K4
+/// The mark that has this token (own): a key, or a key and a binding's name. K1 NotBase64 as in
+/// [`key_of_token`]. Otherwise K2 BadVersion if the encoded bytes before the first tab, or all
+/// bytes if there is no tab, are neither `1` nor `2`. Otherwise K3 NotCanonical if no mark has this
+/// token, for example with another kind word, or with a ClusterRoleBinding in a namespace. K4
 /// NoMemory only if the call runs out of memory.
 pub fn mark_of_token(alloc: Global, token: &Word) -> Result<Mark, TokenFault>
     ensures mark { MatchResult result (IsTokenOfMark token.now) (IsMarkFault token.now) }
@@ -77,7 +77,7 @@ pub fn mark_of_token(alloc: Global, token: &Word) -> Result<Mark, TokenFault>
     mark_printed_as(alloc, &bytes)
 }
 
-// The mark that is printed exactly as these bytes; any other spelling of it is refused.
+// The mark that is printed exactly as these bytes; refuses any other spelling.
 fn mark_printed_as(alloc: Global, bytes: &[u8]) -> Result<Mark, TokenFault>
     ensures mark { MatchResult result (IsMarkPrintedAs bytes.now)
         (RefusesIf ((m : Mark) → ¬ IsMarkPrintedAs bytes.now m)) }
@@ -88,7 +88,7 @@ fn mark_printed_as(alloc: Global, bytes: &[u8]) -> Result<Mark, TokenFault>
     Ok(mark)
 }
 
-// Refuses bytes that aren't exactly what the mark is printed as.
+// Refuses bytes that differ from the printed mark.
 fn check_spelling(alloc: Global, mark: &Mark, bytes: &[u8]) -> Result<(), TokenFault>
     ensures { MatchResult result (λ _. bytes.now ≡ printed_mark mark.now.key mark.now.binding)
         (RefusesIf (bytes.now ≢ printed_mark mark.now.key mark.now.binding)) }

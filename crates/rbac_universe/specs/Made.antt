@@ -7,7 +7,7 @@ use Rattle.rbac_terms.specs.Principals.{Who}
 use Rattle.rbac_model.specs.Universes.{UniverseView, IsUniverse}
 use Rattle.rbac_universe.specs.Sets.{IsWithinLimits}
 
--- the targets are paired with their flags, place by place
+-- a universe from its lists: the targets are paired with their flags, place by place
 abbrev pub view_of : List Who → List Text → List Text → List What → List Bool → UniverseView
 view_of principals namespaces verbs targets namespaced = record {
   principals = principals;
@@ -16,6 +16,7 @@ view_of principals namespaces verbs targets namespaced = record {
   targets = zip targets namespaced;
 }
 
+-- the lists of a universe are in order, and within the limits
 pub record IsMade (u : UniverseView) : Type 0 where
   pub ordered : IsUniverse u
   pub few : IsWithinLimits u

@@ -10,7 +10,7 @@ use Rattle.rbac_universe.specs.declared.fault.UniverseFault.{UniverseFault}
 use Rattle.rbac_universe.specs.declared.fault.UniverseFault.TheVariants.{BadTarget, TooLarge}
 use Rattle.rbac_universe.specs.declared.fault.UniverseFault.TheVariants.{NoMemory}
 
--- what is listed as a resource or a URL can be asked for, whatever the names (own)
+-- a request can ask for each listed resource and each listed URL, whatever the names (own)
 pub record AreProper (lists : UniverseLists) : Type 0 where
   pub resources : All (λ r. IsProper (Resource r.group r.text [])) lists.resources
   pub urls : All (λ path. IsProper (Url path)) lists.urls
@@ -27,8 +27,8 @@ IsNamespaced lists (Resource group text name) =
     Any (λ r. (r.group ≡ group) × (r.text ≡ text) × IsTrue r.namespaced) lists.resources
 IsNamespaced lists (Url path) = ⊥
 
--- each list as a set, in byte order: principals by key, with all groups given under it; targets by
--- group, resource or URL, and name (own)
+-- each list as a set, in byte order: principals by key, with all groups given under this key;
+-- targets by group, resource or URL, and name (own)
 pub record AreSets (lists : UniverseLists) (u : UniverseView) : Type 0 where
   pub principals : AreUnited lists.principals u.principals
   pub namespaces : IsOnceEach text_cmp lists.namespaces u.namespaces
@@ -50,7 +50,8 @@ pub record IsUniverseOf (lists : UniverseLists) (u : UniverseView) : Type 0 wher
   pub sets : AreSets lists u
   pub few : IsWithinLimits u
 
--- why the lists make no universe: a bad target first, then sets that are too large
+-- why the lists make no universe: a bad target first, then sets that are too large; memory may run
+-- out at any time
 abbrev pub HasUniverseFault : UniverseLists → UniverseFault → Type 0
 HasUniverseFault lists BadTarget = ¬ AreProper lists
 HasUniverseFault lists TooLarge = AreProper lists

@@ -6,6 +6,7 @@ use Rattle.rbac_model.specs.Universes.{Listed}
 use Rattle.rbac_universe.specs.declared.lists.UniverseLists.{UniverseLists}
 use Rattle.rbac_universe.specs.declared.lists.ListedResource.{ListedResource}
 
+-- the name of a stem: its group and its text
 abbrev pub stem_name : ListedResource → List Text
 stem_name s = s.group ∷ s.text ∷ []
 
@@ -13,17 +14,20 @@ stem_name s = s.group ∷ s.text ∷ []
 abbrev pub url_stem : Text → ListedResource
 url_stem path = record { group = []; text = path; namespaced = false }
 
+-- the stems of lists: the resources, and then the URLs, in the order listed
 abbrev pub stems_of : UniverseLists → List ListedResource
 stems_of lists = lists.resources ++ map url_stem lists.urls
 
--- a stem's targets
+-- a stem's targets: a URL is one, and a resource has one for each name
 abbrev pub targets_of : List Text → ListedResource → List What
 targets_of names s =
     cond (is_path s.text) (Url s.text ∷ []) (map (λ n. Resource s.group s.text n) names)
 
+-- a stem's targets, each with whether it is namespaced
 abbrev pub listed_of : List Text → ListedResource → List Listed
 listed_of names s = map (λ t. (t, s.namespaced)) (targets_of names s)
 
+-- for each target of a stem, whether it is namespaced
 abbrev pub flags_of : List Text → ListedResource → List Bool
 flags_of names s = map (λ t. s.namespaced) (targets_of names s)
 

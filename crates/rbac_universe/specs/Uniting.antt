@@ -17,7 +17,7 @@ pub record AreUnitedBy {X : Type 0} (name : X → List Text) (has : X → Text �
   pub texts : (n : List Text) (t : Text) → HasUnder name has united n t
       ↔ HasUnder name has listed n t
 
--- what the elements give, united by name, after one more element
+-- new is what old and one more element give, united by name
 pub record IsOneMore {X : Type 0} (name : X → List Text) (has : X → Text → Type 0) (old : List X)
     (item : X) (new : List X) : Type 0 where
   pub ordered : IsAscendingBy name new

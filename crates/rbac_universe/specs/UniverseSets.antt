@@ -16,6 +16,7 @@ universe_of g = record {
   targets = flat_map (listed_of g.names.items) g.stems.items;
 }
 
+-- the sets of these lists, with stems of which targets can be made
 pub record AreUniverseSets (lists : UniverseLists) (g : UniverseSets) : Type 0 where
   pub sets : AreSets lists (universe_of g)
   pub stems : All IsStem g.stems.items

@@ -6,12 +6,12 @@ use std::alloc::AllocError;
 use std::error::Error;
 use std::fmt;
 
-/// Why lists don't make a universe (own). Its text is the number and name of the refusal; out of
-/// memory has no number there.
+/// Why lists don't make a universe (own). A fault is printed as the refusal's number and name; out
+/// of memory is printed without a number.
 #[derive(Debug, Drop, Clone, Copy, PartialEq, Eq)]
 pub enum UniverseFault {
     /// P3: a listed resource whose text is empty or begins with a slash, or a listed URL that
-    /// doesn't begin with one. Comes before P4, and applies even if there are no names.
+    /// doesn't begin with a slash. Comes before P4, and applies even if there are no names.
     BadTarget,
     /// P4: more than 65,535 principals, namespaces or verbs, or more than 1,000,000 targets,
     /// counted without repeats.

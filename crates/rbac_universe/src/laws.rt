@@ -8,8 +8,8 @@ ghost use Rattle.rbac_universe.specs.declared.fault.UniverseFault.{UniverseFault
 ghost use Rattle.rbac_universe.specs.declared.fault.UniverseFault.TheVariants.{NoMemory};
 ghost use Rattle.rbac_universe.specs.Sets.{AreSets, IsUniverseOf, HasUniverseFault};
 
-/// Lists determine their sets (own). Of the principals this says that their keys are determined; it
-/// leaves open in which order, and how often, a principal's groups are given.
+/// Lists determine their sets (own). Of the principals, only the keys are determined: the order of
+/// a principal's given groups, and their repeats, may differ.
 pub fn sets_are_one()
     ensures { (lists : UniverseLists) (u others : UniverseView) → AreSets lists u
         → AreSets lists others
@@ -18,8 +18,8 @@ pub fn sets_are_one()
         × (u.verbs ≡ others.verbs) × (u.targets ≡ others.targets) }
 {}
 
-/// Lists that make a universe have no fault, out of memory aside. So the same lists are either
-/// always refused or never (own).
+/// Lists that make a universe have no fault but out of memory. So the same lists are refused either
+/// always or never (own).
 pub fn universes_have_no_fault()
     ensures { (lists : UniverseLists) (u : UniverseView) (fault : UniverseFault)
         → IsUniverseOf lists u

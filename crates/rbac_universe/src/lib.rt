@@ -1,4 +1,4 @@
-//! The universe that a matrix ranges over: who asks, where, to do what, and for which targets.
+//! The universe that a matrix ranges over: principals, namespaces, verbs and targets.
 #![tactic(auto)]
 
 mod fault;

@@ -2,19 +2,19 @@
 
 use rbac_terms::{Items, Principal, Word, Words};
 
-/// What a universe is made of: who asks, where, to do what, for which resources with which object
-/// names, and for which URLs (own).
+/// The lists that a universe is made of: principals, namespaces, verbs, resources, object names and
+/// URLs (own).
 #[derive(Drop)]
 pub struct UniverseLists {
-    /// Users and groups. All groups that are given to the same user are united.
+    /// Users and groups. A user with several entries has the groups of all of them.
     pub principals: Principals,
-    /// Namespaces; the empty text stands for a request without one.
+    /// Namespaces; the empty text is the whole cluster.
     pub namespaces: Words,
     /// Verbs.
     pub verbs: Words,
-    /// Resources, each asked for with each name.
+    /// Resources; each is combined with each object name.
     pub resources: ListedResources,
-    /// Object names; the empty text stands for a request without one.
+    /// Object names; the empty text is for a request without an object name.
     pub names: Words,
     /// Paths of URLs.
     pub urls: Words,
@@ -30,7 +30,7 @@ pub struct ListedResource {
     pub group: Word,
     /// The resource, with `/` and its subresource if it has one.
     pub text: Word,
-    /// Whether this entry says that its objects live in namespaces.
+    /// Whether the resource is namespaced, by this entry.
     pub namespaced: bool,
 }
 

@@ -1,4 +1,4 @@
-//! Principals, once for each key, with all groups that are given under it.
+//! One principal for each key, with all groups that are given under this key.
 
 use crate::unions::Unites;
 use rbac_terms::Principal;

@@ -95,7 +95,7 @@ fn copies_of(alloc: Global, words: &[Word]) -> Result<Vec<Word>, AllocError>
     Vec::from_clones(alloc, words)
 }
 
-// Whether all listed resources and URLs can be asked for.
+// Whether a request can ask for each listed resource and each listed URL.
 pub(crate) fn are_proper(lists: &UniverseLists) -> bool
     ensures { IsTrue result ↔ AreProper lists.now }
 {

@@ -1,5 +1,5 @@
 //! Stems, from which targets are made: a resource, which is combined with each name, or a URL. A
-//! URL begins with a slash and a resource doesn't, so a stem needs no flag to say which it is.
+//! URL begins with a slash and a resource doesn't, so a stem needs no flag for its kind.
 
 ghost use Rattle.std.specs.Prelude.{◌≡◌, ◌++◌, length, All, IfOk, OnOk, IsTrue};
 ghost use Rattle.std.specs.List.{flat_map};

@@ -9,7 +9,8 @@ ghost use Rattle.rbac_universe.specs.Uniting.{AreUnitedBy, IsOneMore};
 use std::alloc::{AllocError, Global};
 use std::cmp::Ordering;
 
-/// An element that has a name and texts, and can take over the texts of another of its name.
+/// An element that has a name and texts, and can take over the texts of an element with the same
+/// name.
 pub(crate) trait Unites {
     ghost name: { Self → List Text };
 
@@ -25,8 +26,8 @@ pub(crate) trait Unites {
         ensures texts { OnOk result ((t : Text) → has self.new t ↔ (has self.old t ⊎ has more t)) };
 }
 
-// One element for each name, in order of names. The elements are sorted first, so that those of one
-// name are next to each other.
+// One element for each name, in order of names. The elements are sorted first, so that elements
+// with the same name are next to each other.
 pub(crate) fn united<T: Unites + Drop>(
     alloc: Global,
     mut listed: Vec<T>,
@@ -41,7 +42,7 @@ pub(crate) fn united<T: Unites + Drop>(
     Ok(united)
 }
 
-// Adds an element to those with lesser names or its own name.
+// Adds an element, or unites it with the last one. No name in the list is greater than its own.
 fn put<T: Unites + Drop>(united: &mut Vec<T>, item: T) -> Result<(), AllocError>
     requires ascending { IsAscendingBy T.name united.old.items }
     requires not_below { All (λ y. by_name T.name item y ≢ Less) united.old.items }

@@ -57,12 +57,13 @@ impl Universe {
     ghost use Rattle.rbac_universe.specs.Made.{IsMade};
 
     /// The universe of these lists, each taken as a set: one principal for each key, with all
-    /// groups that are given under it; each resource with each name, and each URL. A resource is
-    /// namespaced if one of its entries is, and a URL isn't.
+    /// groups that are given under this key; each resource with each name, and each URL. A resource
+    /// is namespaced if one of its entries is; a URL never is.
     ///
-    /// A bad resource or URL is refused first, whatever the names, and then sets beyond the limits:
-    /// 65,535 each of principals, namespaces and verbs, and 1,000,000 targets (own). Targets are
-    /// counted before any of them is made. Refusing a bad resource or URL doesn't allocate.
+    /// Refuses a bad resource or URL first, with P3 BadTarget, whatever the names and without
+    /// allocating. Then refuses sets beyond the limits, with P4 TooLarge: 65,535 each of
+    /// principals, namespaces and verbs, and 1,000,000 targets (own). Targets are counted before
+    /// any of them is made. P5 NoMemory only if the call runs out of memory.
     pub fn build(alloc: Global, lists: &UniverseLists) -> Result<Self, UniverseFault>
         ensures ok { IfOk result (IsUniverseOf lists.now) }
         ensures fault { IfErr result (HasUniverseFault lists.now) }

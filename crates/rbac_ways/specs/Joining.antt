@@ -13,7 +13,7 @@ SharesWord takes had_by i j = (w : Text) × Contains (slice_index_or takes i [])
 abbrev pub IsListedAt : List (List ℕ) → ℕ → ℕ → Type 0
 IsListedAt lists place number = Contains (slice_index_or lists place []) number
 
--- lists turned round into this many: each place is listed at the numbers that are listed there
+-- turned has `count` lists, and its list j has i exactly if list i has j
 pub record AreTurned (lists : List (List ℕ)) (count : ℕ) (turned : List (List ℕ)) : Type 0 where
   pub len : length turned ≡ count
   pub each : (i j : ℕ) → j < count → IsListedAt turned j i ↔ IsListedAt lists i j
@@ -23,11 +23,11 @@ pub record AreWordsOf (lists : List (List Text)) (words : List Text) : Type 0 wh
   pub ascending : IsStrictlySortedBy text_cmp words
   pub same : (w : Text) → Contains words w ↔ ((i : ℕ) × Contains (slice_index_or lists i []) w)
 
--- the number is that of a listed word
+-- a listed word has the number
 abbrev pub IsNumberOf : List Text → List Text → ℕ → Type 0
 IsNumberOf words listed number = (w : Text) × Contains listed w × (slice_get words number ≡ Some w)
 
--- node i takes the sets of its words, and, after those of all words, one of its own
+-- node i takes the sets of its words, and one of its own, which comes after the sets of all words
 abbrev pub TakesSet : List Text → List (List Text) → ℕ → ℕ → Type 0
 TakesSet words takes i set = IsNumberOf words (slice_index_or takes i []) set
     ⊎ (set ≡ length words + i)

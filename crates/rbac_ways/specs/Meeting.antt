@@ -15,8 +15,8 @@ unmet [] = 0
 unmet (None ∷ stops) = unmet stops + 1
 unmet (Some s ∷ stops) = unmet stops
 
--- Nodes were met: after it those that are due have stops, a node that has a new stop may have it, and
--- each node that was met now is in the level, beside those that were in it.
+-- nodes were met: each node that is due has a stop now, each new stop is one that its node may
+-- have, and the level has the nodes that it had before and those that were met now
 pub record MeetsNodes (Due : ℕ → Type 0) (May : ℕ → Stop → Type 0) (old new : List (Option Stop))
     (before level : List ℕ) : Type 0 where
   pub len : length new ≡ length old
@@ -27,19 +27,19 @@ pub record MeetsNodes (Due : ℕ → Type 0) (May : ℕ → Stop → Type 0) (ol
       ↔ (Contains before j ⊎ ((stop_at old j ≡ None) × IsSome (stop_at new j)))
   pub room : unmet new + length level ≤ unmet old + length before
 
--- the stop that many edges from a start, with i before it
+-- the stop of a node after that many edges, with i before it
 abbrev pub stop_behind : ℕ → ℕ → Stop
 stop_behind edges i = record { edges = edges; before = i }
 
--- the stop is that one, and the node is among these
+-- the node is one of these, and has that stop
 abbrev pub IsOneOf : List ℕ → Stop → ℕ → Stop → Type 0
 IsOneOf nodes stop j s = Contains nodes j × (s ≡ stop)
 
--- the node is among the starts, and has no node before it
+-- the node is one of the starts, and has no node before it
 abbrev pub IsFirstStop : List ℕ → ℕ → Stop → Type 0
 IsFirstStop starts j s = Contains starts j × (s ≡ stop_behind 0 j)
 
--- i has an edge to j, which comes after it
+-- i has an edge to j, and is before j in its stop
 abbrev pub IsNext : GraphView → ℕ → ℕ → ℕ → Stop → Type 0
 IsNext g edges i j s = IsEdge g i j × (s ≡ stop_behind edges i)
 
@@ -47,7 +47,7 @@ IsNext g edges i j s = IsEdge g i j × (s ≡ stop_behind edges i)
 abbrev pub IsNextTo : GraphView → List ℕ → ℕ → Type 0
 IsNextTo g level j = (i : ℕ) × Contains level i × IsEdge g i j
 
--- j comes after the least node of the level that has an edge to it
+-- the node before j is the least node of the level that has an edge to j
 pub record IsAfterLeast (g : GraphView) (level : List ℕ) (edges j : ℕ) (s : Stop) : Type 0 where
   pub next : IsNext g edges s.before j s
   pub before : Contains level s.before
@@ -58,8 +58,8 @@ abbrev pub AreMet : GraphView → List Bool → List (Option Stop) → Type 0
 AreMet g passed stops = (k j : ℕ) → slice_index_or passed k false ≡ true
     → Contains (slice_index_or g.sets k []) j → j < length stops → IsSome (stop_at stops j)
 
--- the nodes that at most that many edges lead to were met, and no others; those that exactly that
--- many edges lead to are the level, in order
+-- exactly the nodes to which ways of at most that many edges lead were met; the level has, in
+-- order, those whose shortest ways have exactly that many
 pub record IsMetTo (g : GraphView) (starts : List ℕ) (edges : ℕ) (stops : List (Option Stop))
     (level : List ℕ) : Type 0 where
   pub len : length stops ≡ length g.takes

@@ -1,5 +1,6 @@
 -- Shortest ways through a graph whose edges go through sets of nodes.
-use Rattle.std.specs.Prelude.{◌≡◌, ◌⊎◌, ◌↔◌, ℕ, zero, suc, ◌<◌, List, [], Option, None, Some, IsSome}
+use Rattle.std.specs.Prelude.{◌≡◌, ◌⊎◌, ◌↔◌, ℕ, zero, suc, ◌<◌, List, [], Option, None, Some}
+use Rattle.std.specs.Prelude.{IsSome}
 use Rattle.std.specs.Prelude.{AllPairs, Contains, MatchOption, length, slice_index_or}
 use Rattle.rbac_ways.specs.declared.graph.Stop.{Stop}
 
@@ -8,7 +9,7 @@ pub record GraphView : Type 0 where
   pub takes : List (List ℕ)
   pub sets : List (List ℕ)
 
--- an edge leads from i to j: i takes a set that has j
+-- an edge leads from i to j: i takes a set that contains j
 pub record IsEdge (g : GraphView) (i j : ℕ) : Type 0 where
   pub set : ℕ
   pub takes : Contains (slice_index_or g.takes i []) set
@@ -25,7 +26,7 @@ pub record IsNearest (g : GraphView) (starts : List ℕ) (n j : ℕ) : Type 0 wh
   pub leads : IsReachedIn g starts n j
   pub fewest : (k : ℕ) → k < n → ¬ IsReachedIn g starts k j
 
--- the node before j, n edges from a start: the least that a shortest way can come from
+-- the node before j on a shortest way of n edges: the least that can be, or j itself if n is 0
 abbrev pub IsLeastBefore : GraphView → List ℕ → ℕ → ℕ → ℕ → Type 0
 IsLeastBefore g starts zero j b = b ≡ j
 IsLeastBefore g starts (suc n) j b = IsNearest g starts n b × IsEdge g b j
@@ -43,13 +44,14 @@ pub record AreStops (g : GraphView) (starts : List ℕ) (stops : List (Option St
       ((n : ℕ) → ¬ IsReachedIn g starts n j)
       (IsStop g starts j)
 
--- fewer edges lead to i than to j, or as many, and i has the lesser number
+-- the way to i has fewer edges than the way to j, or as many, and i has the lesser number
 abbrev pub IsMetBefore : List (Option Stop) → ℕ → ℕ → Type 0
 IsMetBefore stops i j = (s t : Stop)
     × (slice_index_or stops i None ≡ Some s) × (slice_index_or stops j None ≡ Some t)
     × ((s.edges < t.edges) ⊎ ((s.edges ≡ t.edges) × (i < j)))
 
--- exactly the nodes that have stops, in order of how many edges lead there, and then of their numbers
+-- exactly the nodes that have stops, in order of how many edges their ways have, and then of their
+-- own numbers
 pub record AreInOrder (stops : List (Option Stop)) (order : List ℕ) : Type 0 where
   pub exact : (j : ℕ) → Contains order j ↔ IsSome (slice_index_or stops j None)
   pub ordered : AllPairs (IsMetBefore stops) order

@@ -1,11 +1,11 @@
-//! A graph whose edges go through sets, and where nodes are on its ways.
+//! Graphs whose edges go through sets, and where nodes are on shortest ways.
 
 use rbac_terms::Items;
 use std::marker::Model;
 
 /// A graph whose edges go through sets of nodes: an edge leads from each node that takes a set to
-/// each node of the set. So a large set that many nodes take is written once. Nodes and sets are
-/// numbered from 0; a number past the last one stands for nothing (own).
+/// each node of the set. So a large set that many nodes take is kept once. Nodes and sets are
+/// numbered from 0; a number past the last one is ignored (own).
 pub struct Graph {
     /// The sets that each node takes.
     pub takes: Vec<Items<usize>>,
@@ -30,17 +30,17 @@ impl Model for Graph {
 /// Where a node is on a shortest way.
 #[derive(Clone, Copy, PartialEq, Eq, Debug, Drop)]
 pub struct Stop {
-    /// How many edges lead to the node.
+    /// How many edges the way to the node has.
     pub edges: usize,
-    /// The node before it; the node itself, if no edge leads to it.
+    /// The node before it on the way; the node itself if the way has no edges.
     pub before: usize,
 }
 
 /// The nodes that ways lead to.
 pub struct Reached {
-    /// For each node of the graph, where it is on a shortest way, if a way leads there.
+    /// For each node of the graph, where it is on a shortest way; `None` if no way leads to it.
     pub stops: Vec<Option<Stop>>,
-    /// The nodes that ways lead to, in order of how many edges lead there, and then of their
+    /// The nodes that ways lead to, in order of how many edges the ways have, and then of their own
     /// numbers.
     pub order: Vec<usize>,
 }

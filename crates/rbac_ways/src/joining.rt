@@ -1,5 +1,5 @@
-//! Graphs of nodes that share words: each word has a number, and the set of that number has the
-//! nodes that can be had by the word.
+//! Graphs of nodes that share words. Each word has a number, and the set with this number contains
+//! the nodes that can be had by the word.
 
 ghost use Rattle.std.specs.Prelude.{◌≡◌, ◌<◌, ◌≤◌, ◌⊎◌, ◌↔◌, ℕ, IfOk, OnOk, Some, Contains, length};
 ghost use Rattle.std.specs.Prelude.{◌∷◌, [], replicate, slice_get, slice_index_or};
@@ -14,12 +14,12 @@ use rbac_terms::{Items, Word, Words};
 use std::alloc::{AllocError, Global};
 
 impl Graph {
-    /// The graph in which an edge leads from each node to each one that it shares a word with: one
-    /// of the words that the first takes and by which the second can be had (own). Besides, an edge
-    /// leads from each node to those that `also` lists for it, which has a list for each node at
-    /// most. The words taken, or those by which nodes can be had, if these are fewer, are sorted
-    /// once; and the nodes that can be had by a word are one set, however many take it. Fails only
-    /// if it runs out of memory.
+    /// The graph of nodes that share words: an edge leads from a node to another if the first takes
+    /// a word by which the second can be had (own). An edge also leads from each node to the nodes
+    /// that `also` lists for it; `also` has at most one list for each node. Either the words that
+    /// are taken or those by which nodes can be had are sorted, once: whichever are fewer. The
+    /// nodes that can be had by a word are one set, however many nodes take the word. Fails only if
+    /// it runs out of memory.
     pub fn joined(
         alloc: Global,
         takes: &[Words],
@@ -38,8 +38,8 @@ impl Graph {
         Ok(Graph { takes, sets })
     }
 
-    /// The graph with each edge turned round (own). Sets that many nodes take stay one each. Fails only
-    /// if it runs out of memory.
+    /// The graph with each edge turned round (own). A set that many nodes take stays one set. Fails
+    /// only if it runs out of memory.
     pub fn turned(&self, alloc: Global) -> Result<Self, AllocError>
         ensures nodes { IfOk result (λ g. length g.takes ≡ length self.now.takes) }
         ensures edges { IfOk result (λ g. (i j : ℕ) → IsEdge g i j ↔ IsEdge self.now j i) }
@@ -53,8 +53,8 @@ impl Graph {
     }
 }
 
-// The lists turned round into this many: each place is listed at the numbers that are listed there. A
-// number past the last one is left out.
+// The lists turned round, as `count` lists: list j gets i if list i has j. A number past the last
+// list is left out.
 fn turned(
     alloc: Global,
     lists: &[Items<usize>],
@@ -69,7 +69,7 @@ fn turned(
     Ok(turned)
 }
 
-// Those lists of the two that have fewer words in all. A word that nodes share is in both.
+// The lists that have fewer words in all. Either has every word that nodes share.
 fn fewer_words<'a>(first: &'a [Words], second: &'a [Words]) -> &'a [Words]
     ensures { (result.now ≡ first.now) ⊎ (result.now ≡ second.now) }
 {
@@ -80,7 +80,8 @@ fn fewer_words<'a>(first: &'a [Words], second: &'a [Words]) -> &'a [Words]
     }
 }
 
-// How many words these lists have. It decides only how long the rest takes, so nothing is promised.
+// How many words these lists have. Nothing is proved about this count, because it decides only how
+// long the rest takes.
 fn count_words(lists: &[Words]) -> usize {
     let mut count = 0usize;
     for listed in lists {
@@ -102,7 +103,7 @@ pub(crate) fn words_of(alloc: Global, lists: &[Words]) -> Result<Vec<Word>, Allo
     Ok(words)
 }
 
-// The number of a word, if it is one of these.
+// The number of a word among these words, if it is one of them.
 pub(crate) fn number_of(words: &[Word], word: &Word) -> Option<usize>
     requires { IsStrictlySortedBy text_cmp words.now }
     ensures { (number : ℕ) → (result ≡ Some number) ↔ (slice_get words.now number ≡ Some word.now) }
@@ -110,7 +111,7 @@ pub(crate) fn number_of(words: &[Word], word: &Word) -> Option<usize>
     words.binary_search(word).ok()
 }
 
-// The numbers of the listed words.
+// The numbers of the listed words that are among these words.
 fn numbers_of(alloc: Global, words: &[Word], listed: &Words) -> Result<Vec<usize>, AllocError>
     requires { IsStrictlySortedBy text_cmp words.now }
     ensures { IfOk result (λ numbers. (number : ℕ)
@@ -125,7 +126,8 @@ fn numbers_of(alloc: Global, words: &[Word], listed: &Words) -> Result<Vec<usize
     Ok(numbers)
 }
 
-// The sets that each node takes: those of its words, and, after those of all words, one of its own.
+// The sets that each node takes: those of its words, and one of its own. The own sets come after
+// the sets of all words.
 fn takes_of(alloc: Global, words: &[Word], takes: &[Words]) -> Result<Vec<Items<usize>>, AllocError>
     requires { IsStrictlySortedBy text_cmp words.now }
     ensures len { IfOk result (λ sets. length sets.items ≡ length takes.now) }
@@ -168,7 +170,7 @@ fn no_nodes(alloc: Global, count: usize) -> Result<Vec<Items<usize>>, AllocError
     vec![in alloc; Items::new(alloc); count]
 }
 
-// Adds a node to the lists at these places, as far as they are there.
+// Adds a node to the lists at these places; a place without a list is ignored.
 fn add_to_each(
     places: &[usize],
     node: usize,
@@ -182,7 +184,7 @@ fn add_to_each(
     Ok(())
 }
 
-// Adds a node to the list at this place, if it is there.
+// Adds a node to the list at this place, if there is one.
 fn add_to(place: usize, node: usize, lists: &mut Vec<Items<usize>>) -> Result<(), AllocError>
     ensures { OnOk result (AddsToEach (place ∷ []) node lists.old.items lists.new.items) }
 {

@@ -1,16 +1,17 @@
-//! Meeting the nodes of a level.
+//! Meets the nodes of the search, level by level.
 
 ghost use Rattle.std.specs.Prelude.{◌≡◌, ◌≤◌, ◌↔◌, ℕ, OnOk, IfOk, Contains, [], length};
 ghost use Rattle.std.specs.Prelude.{slice_index_or};
 ghost use Rattle.std.specs.List.Sorted.{IsStrictlyIncreasing};
 ghost use Rattle.rbac_ways.specs.Ways.{IsEdge};
-ghost use Rattle.rbac_ways.specs.Meeting.{AreMet, IsAfterLeast, IsNext, IsNextTo, IsOneOf, IsFirstStop};
+ghost use Rattle.rbac_ways.specs.Meeting.{AreMet, IsAfterLeast, IsNext, IsNextTo, IsOneOf};
+ghost use Rattle.rbac_ways.specs.Meeting.{IsFirstStop};
 ghost use Rattle.rbac_ways.specs.Meeting.{MeetsNodes};
 
 use crate::graph::{Graph, Stop};
 use std::alloc::{AllocError, Global};
 
-// The starts, in order, which are met with no node before them.
+// Meets the starts, with no node before them, and returns them in order.
 pub(crate) fn first_level(
     alloc: Global,
     starts: &[usize],
@@ -31,8 +32,8 @@ pub(crate) fn first_level(
     Ok(in_order(level))
 }
 
-// The nodes that nodes of this level have edges to, in order, less those that were met; they are met
-// now.
+// Meets the nodes to which nodes of this level have edges, and returns, in order, those that
+// weren't met before.
 pub(crate) fn next_level(
     alloc: Global,
     graph: &Graph,
@@ -70,7 +71,7 @@ fn in_order(mut numbers: Vec<usize>) -> Vec<usize>
     numbers
 }
 
-// Meets the nodes that this node has an edge to, and passes its sets.
+// Meets the nodes to which this node has an edge, and marks its sets as passed.
 fn meet_next(
     graph: &Graph,
     node: usize,
@@ -100,7 +101,7 @@ fn meet_next(
     Ok(())
 }
 
-// Meets the nodes of a set, and passes the set, unless it was passed.
+// Meets the nodes of a set and marks the set as passed, unless it was passed before.
 fn meet_set(
     graph: &Graph,
     set: usize,
@@ -140,7 +141,7 @@ fn meet_each(
     Ok(())
 }
 
-// Gives a node this stop and adds it to the level, if it is there and wasn't met.
+// Gives a node this stop and adds the node to the level, if it exists and wasn't met before.
 fn meet(
     node: usize,
     stop: Stop,

@@ -7,10 +7,11 @@ use crate::graph::{Graph, Reached};
 use crate::meeting::{first_level, next_level};
 use std::alloc::{AllocError, Global};
 
-/// For each node of the graph, where it is on a shortest way from a start, if a way leads there, and
-/// the nodes that ways lead to, in the order in which they are met: by the number of edges, and then
-/// by their own (own). Of several nodes that can be before it, the one with the least number is told.
-/// Each set is gone through once. Fails only if it runs out of memory.
+/// Searches for shortest ways from these starts. Returns where each node of the graph is on a
+/// shortest way, if a way leads to it, and the nodes that ways lead to, in order of how many edges
+/// the ways have, and then of their own numbers (own). If several nodes can be before a node, its
+/// stop has the one with the least number. The search goes through each set at most once. Fails
+/// only if it runs out of memory.
 pub fn shortest_ways(alloc: Global, graph: &Graph, starts: &[usize]) -> Result<Reached, AllocError>
     ensures stops { IfOk result (λ reached. AreStops graph.now starts.now reached.stops.items) }
     ensures order { IfOk result (λ reached. AreInOrder reached.stops.items reached.order.items) }

@@ -1,4 +1,4 @@
--- The texts that say why there is no answer, as they are printed (own). Files are counted from 1.
+-- The texts of faults, as they are printed (own). Files are counted from 1.
 use Rattle.std.specs.Prelude.{ℕ, ◌+◌, List, ◌++◌, codes, Option, Some, None}
 use Rattle.std.specs.Fmt.{decimal}
 use Rattle.rbac_command.specs.Faults.{usage_text}
@@ -11,11 +11,12 @@ use Rattle.rbacaudit.specs.declared.Fault.TheVariants.{Words, NotUtf8, Usage, In
 
 -- the place of a file, and why it couldn't be read; out of memory has no place
 abbrev pub file_text : ℕ → InputFault → List ℕ
-file_text place ReadFault = codes "file " ++ decimal (place + 1) ++ codes ": " ++ input_text ReadFault
+file_text place ReadFault =
+    codes "file " ++ decimal (place + 1) ++ codes ": " ++ input_text ReadFault
 file_text place TooLong = codes "file " ++ decimal (place + 1) ++ codes ": " ++ input_text TooLong
 file_text place NoMemory = input_text NoMemory
 
--- why there is no answer; the text of what the system or clap refuses isn't ours
+-- the text of a fault; refusals of the system and of clap have texts of their own
 abbrev pub fault_text : Fault → Option (List ℕ)
 fault_text (Words error) = None
 fault_text (NotUtf8 place) = Some (codes "argument " ++ decimal place ++ codes ": not UTF-8")

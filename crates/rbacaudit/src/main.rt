@@ -2,7 +2,7 @@
 //!
 //! Reads the command line, then each FILE in order or standard input, runs the command with its
 //! answer on standard output, and reports a fault on standard error. The exit status is 0, or 1 for
-//! `no` and for findings, or 2 for a fault.
+//! `no`, findings or changes, or 2 for a fault.
 #![tactic(auto)]
 
 use rbac_cli::{

@@ -1,5 +1,5 @@
-use Rattle.std.proofs.Common.{◌∙◌, arith, sym}
-use Rattle.rbac_subjects.proofs.KeyedLemmas.{none_after}
+use Rattle.std.proofs.Common.{arith}
+use Rattle.rbac_subjects.proofs.KeyedLemmas.{below_end}
 use Rattle.rbac_subjects.proofs.NamedLemmas.{adds_all, adds_more, adds_none}
 use Rattle.rbac_subjects.proofs.named_places.push_under.Goals as goal
 
@@ -16,15 +16,11 @@ loop-at-preserved c =
       low = (low.0, low.1, omega (arith, low.2));
       seen = rw c.in_ok-push.ensures.items
           (adds_more c.args.entries.now c.requires c.args.key.now c.args.end c.args.places.now.items c.loop-at.at c.loop-at.places.items c.loop-at.invariant.seen
-          c.index-entries-at.result c.loop-at-test.true c.index-entries-at.is low (sym c.is_before.ensures ∙ c.if-not-is_before.false));
+          c.index-entries-at.result (omega (arith, c.loop-at-test.true, c.first_entry-past.ensures.bound)) c.index-entries-at.is low
+          (rw (← c.index-entries-at.is) at (c.first_entry-past.ensures.first.0 c.loop-at.at c.index-entries-at.result (omega arith) c.loop-at-test.true)));
     }
-
-pub returns-then-not-is_before : goal.returns-then-not-is_before
-returns-then-not-is_before c =
-    adds_all c.args.entries.now c.requires c.args.key.now c.args.end c.args.places.now.items c.loop-at.at c.loop-at.places.items c.loop-at.invariant.seen
-    (none_after c.args.entries.now c.requires c.args.key.now 0 c.args.end c.loop-at.at c.index-entries-at.result c.loop-at-test.true c.index-entries-at.is (sym c.is_before.ensures ∙ c.if-not-is_before.true))
 
 pub returns : goal.returns
 returns c =
     adds_all c.args.entries.now c.requires c.args.key.now c.args.end c.args.places.now.items c.loop-at.at c.loop-at.places.items c.loop-at.invariant.seen
-    (λ n p. (let end = c.loop-at-test.false in omega (arith, end, p.0.1)))
+    (λ n p. (let below = below_end c.args.entries.now c.requires c.args.key.now 0 c.args.end c.first_entry-past.result c.first_entry-past.ensures.first n p in let end = c.loop-at-test.false in omega (arith, end, below)))

@@ -1,4 +1,4 @@
-use Rattle.std.proofs.Common.{◌-◌, ◌≤◌, ℕ, length}
+use Rattle.std.proofs.Common.{◌-◌, ◌≤◌, ℕ}
 use Rattle.rbac_subjects.specs.Keyed.{AddsPlaces, IsFirstEntry, keyed}
 use Rattle.rbac_subjects.proofs.KeyedLemmas.{IsSeen}
 use Rattle.rbac_subjects.proofs.named_places.push_under.Given as goal
@@ -10,4 +10,4 @@ invariant-loop-at l = record {
 }
 
 abbrev pub decreases-loop-at : goal.decreases-loop-at
-decreases-loop-at l = length l.entries - l.at
+decreases-loop-at l = l.past - l.at
