@@ -2,10 +2,10 @@
 
 complete -c rbacaudit-page -f
 complete -c rbacaudit-page -s h -l help -d 'show this help message and exit'
-complete -c rbacaudit-page -l lint -r -F -d 'findings to show beside, as rbacaudit lint writes them'
-complete -c rbacaudit-page -l diff -r -F -d 'changes to show beside, as rbacaudit diff writes them'
-complete -c rbacaudit-page -l paths -r -F -d 'paths to show beside, as rbacaudit paths or who-can --indirect writes them'
-complete -c rbacaudit-page -l named -r -F -d 'holders by name to count apart: verb, API group, resource, who, binding'
+complete -c rbacaudit-page -l lint -r -F -d 'findings to show with the rows: lines of rbacaudit lint'
+complete -c rbacaudit-page -l diff -r -F -d 'changes to show with the rows: lines of rbacaudit diff'
+complete -c rbacaudit-page -l paths -r -F -d 'paths to show with the rows: lines of rbacaudit paths or who-can --indirect'
+complete -c rbacaudit-page -l named -r -F -d 'holders limited to object names: verb, API group, resource, who, binding'
 complete -c rbacaudit-page -l namespaced -r -F -d 'types that have namespaces: API group and resource'
 complete -c rbacaudit-page -l notices -r -F -d 'lines to show at the top, such as what the rows lack'
 complete -c rbacaudit-page -l about -r -F -d 'the about.txt of an export, to show cluster, server and time'

@@ -203,7 +203,7 @@ def help_and_usage():
         checked('help names %s' % option.decode(), option in run(['matrix', '--help']).stdout)
     for said in (b'--groups <A,B>', b'--group <G>', b'-n, --namespace <NS>', b'-A, --all-namespaces', b'ten fields, joined by tabs', b'[] is the empty list'):
         checked('help of rules says "%s"' % said.decode(), said in run(['rules', '--help']).stdout)
-    for said in (b'--groups <A,B>', b'--group <G>', b'--steps <STEPS>', b'WHO', b'eleven fields, joined by tabs', b'Follow FROM upwards to WHO'):
+    for said in (b'--groups <A,B>', b'--group <G>', b'--steps <STEPS>', b'WHO', b'eleven fields, joined by tabs', b'and so on back to WHO'):
         checked('help of paths says "%s"' % said.decode(), said in run(['paths', '--help']).stdout)
     for said in (b'[FILE]', b'matrix over the same files and this document lists the same rows'):
         checked('help of universe says "%s"' % said.decode(), said in run(['universe', '--help']).stdout)

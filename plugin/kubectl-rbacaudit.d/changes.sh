@@ -201,28 +201,28 @@ List what a change lets users do, and what it takes from them.
 
   kubectl rbacaudit diff --export OLD --export NEW   from one export to another
   kubectl rbacaudit diff --export OLD                from an export to the cluster as it is now
-  kubectl rbacaudit diff --export DIR --with PATH    what a change would do that waits for review
+  kubectl rbacaudit diff --export DIR --with PATH    what a change under review would do
   kubectl rbacaudit diff --with PATH                 the same, to the cluster as it is now
   kubectl rbacaudit diff --from PATH --to PATH       from some manifests to others, without a cluster
   kubectl rbacaudit diff --export DIR --from PATH --to PATH
-                                                     what that does to the cluster
+                                                     what that change would do to the cluster of the export
 
-  --with PATH      manifests that are put over the export: an object takes the place of the export's
-  --without PATH   manifests whose objects are taken from the export first, by kind, namespace and name
-  --from PATH      the manifests before the change; with --export, what --without means
-  --to PATH        the manifests after it; with --export, what --with means
-  -n NS            the namespace of their roles and bindings that have none; without it, default
+  --with PATH      manifests whose objects are added to the export, or replace its objects
+  --without PATH   manifests whose objects are first removed from the export, by kind, namespace and name
+  --from PATH      the manifests before the change; with --export, the same as --without
+  --to PATH        the manifests after the change; with --export, the same as --with
+  -n NS            the namespace for roles and bindings of manifests that have none (default: default)
   --summary        counts instead of lines: the permissions gained and lost for each who, where and binding, the
                    powers among them, which are ways to take over somebody else, and a total
   -o sarif         the changes as SARIF, for code hosts, with the file of each binding or of its role
-  --fail-on WHAT   end with status 1 for changes (default), for gains alone, or for gained powers alone
+  --fail-on WHAT   end with status 1 for changes (default), only for gains, or only for powers that are gained
 
 PATH is a file, a folder (.json, .yaml and .yml, folders within), a folder with a kustomization, or -
 for standard input. kubectl reads it, without a cluster (kubectl rbacaudit read --help). Standard error
 says how many roles and bindings were read. Without --without, objects that the change deletes still count.
 
-A line begins with + for what is gained, or with - for what is lost; rbacaudit diff --help has its
-fields. All requests of all users are compared, whether an export names them or not.
+A line begins with + for a permission that is gained, or with - for one that is lost; rbacaudit diff --help
+lists the fields. All requests of all users are compared, whether an export names them or not.
 
 The other options (--partial, -o, ..) mean what kubectl rbacaudit --help says.
 Exit status: 0 nothing changes, or nothing that --fail-on names; 1 something does; 2 an error.

@@ -243,7 +243,7 @@ Print the manifests at some paths as one List in JSON, as kubectl reads them.
 
 Lint, and the options --with, --without, --from and --to of diff, read their PATH in the same way. kubectl
 reads neither a cluster nor a kubeconfig for it. Documents of every kind pass. This is refused:
-  - a file that kubectl can't read; its reason comes before
+  - a file that kubectl can't read: kubectl's reason is printed first
   - a folder without a manifest, with a Helm chart, or with a kustomization in a folder within
   - a kind that rbac.authorization.k8s.io doesn't have, such as Clusterrole, and a role without apiVersion
 Standard error says how many roles and bindings were read, and which have no namespace.

@@ -220,14 +220,14 @@ Write everything about the export as one HTML file, which any current browser op
                  standard output
   -n NS          the page of one namespace: its rows, and those of the whole cluster
   --title TEXT   the title of the page
-  --diff FILE    changes to show beside, as rbacaudit diff writes them
-  --every        rows for every binding that grants, not only for the first
+  --diff FILE    changes to show with the rows: lines of rbacaudit diff
+  --every        a row for every binding that grants a request, not only for the first
 
 The rows are those of matrix --once, over the universe that kubectl rbacaudit universe writes:
 without object names. What holds in the whole cluster is listed once, and the page shows it in each
-namespace. A FILE may be a Universe document of your own; each of its fields replaces one of that
-universe. The findings of lint are shown beside. The watch list counts apart who may do something
-on it only to objects of certain names, whatever a Universe document says.
+namespace. A FILE may be a Universe document of your own: each of its fields replaces a list of that
+universe. The page also shows the findings of lint. Its watch list counts separately who may do
+something only to objects with certain names, whether the Universe document has these names or not.
 
 --export, --partial, --context, --kubeconfig and --request-timeout mean what
 kubectl rbacaudit --help says.

@@ -35,7 +35,7 @@ Then ask:
 rbacaudit COMMAND --help lists the options of a command.";
 
 const CAN_I_MORE: &str = "The line of --why has five fields, joined by tabs:
-  BINDING  the first binding that allows it
+  BINDING  the first binding that allows the request
   ROLE     the role that the binding names
   SOURCE   the role that contains the rule: ROLE, or a role that an aggregated ROLE gathers
   RULE     the number of the rule in SOURCE, from 1
@@ -46,23 +46,27 @@ Examples:
   rbacaudit can-i --as alice --groups dev,ops -n dev --why get pods --subresource log *.json";
 
 const WHO_CAN_MORE: &str =
-    "The exit status is 0 even if nobody may; 2 is an error. Holders that are limited to object names
-are listed only if TARGET names the object: --any-name lists them all. A RoleBinding counts in its
-namespace alone: --anywhere counts all RoleBindings; each line's binding shows its namespace.
+    "Each line is a holder: a user or a group that a binding allows VERB TARGET. A rule limited to
+object names counts only if TARGET has one of these names; with --any-name, it always counts. Of the
+RoleBindings, only those of the namespace count; with --anywhere, those of all namespaces count, and
+the binding of a line shows its namespace. The exit status is 0 even if there is no line; 2 is an
+error.
 
-With --why four fields follow the binding: ROLE, SOURCE, RULE and SUBJECT, as in can-i --help. They
-name the binding's first rule that allows it, and its first subject that is the holder.
+With --why four fields follow the binding: ROLE, SOURCE, RULE and SUBJECT, as in can-i --help. RULE
+is the binding's first rule that allows VERB TARGET, and SUBJECT its first subject that is the
+holder.
 
---indirect also lists who comes step by step to somebody who may. A line then has eleven fields:
-  STEPS    the least number of steps that lead from WHO to somebody who may; 0 if WHO may
+--indirect also lists who can get to VERB TARGET by taking over others, step by step. A line then
+has eleven fields:
+  STEPS    the fewest steps from WHO to somebody who may VERB TARGET; 0 if WHO may
   WHO      u:USER, g:GROUP, a role that can be bound, or * for everything
   WHERE    where the role or * counts: a namespace, or * for the whole cluster; - for u: and g:
-  TO       the one after WHO on the way: the WHO of a line above; - if WHO may
+  TO       whom or what WHO takes over first: the WHO of a line above; - if STEPS is 0
   WHERE    where TO counts
   STEP     how WHO takes over TO, as in powers --help
-and BINDING, ROLE, SOURCE, RULE and SUBJECT, as in paths --help: of what grants WHO the step or, if
-WHO may, VERB TARGET. Follow TO upwards. --indirect excludes --anywhere, --any-name, --every and
---why.
+and BINDING, ROLE, SOURCE, RULE and SUBJECT, as in paths --help, of the first grant that gives WHO
+the step or, if STEPS is 0, VERB TARGET. To read a path, look up TO as the WHO of a line above, and
+so on to a line whose STEPS is 0. --indirect excludes --anywhere, --any-name, --every and --why.
 
 Examples:
   rbacaudit who-can -n dev delete secrets cluster.json namespaced.json
@@ -77,17 +81,18 @@ const RULES_MORE: &str = "A line has ten fields, joined by tabs:
   ROLE       the role that the binding names
   SOURCE     the role that contains the rule: ROLE, or a role that an aggregated ROLE gathers
   RULE       the number of the rule in SOURCE, from 1
-  SUBJECT    the number of the first such subject in BINDING, from 1
+  SUBJECT    the number of the first subject in BINDING that is WHO or a group of WHO, from 1
   VERBS      the verbs of the rule
   GROUPS     its API groups
   RESOURCES  its resources
   NAMES      its object names
   URLS       its URLs
-The last five are lists, as [get,list]. [] is the empty list; - in a list is the empty word, as the
-core API group; a comma in a word is \\x2c.
+The last five fields are lists, such as [get,list]. [] is the empty list; - in a list is the empty
+word, such as the core API group; a comma in a word is \\x2c.
 
-WHO is the first field of a line of who-can or matrix, taken as it is: undo its escapes first. With
-a group, --groups is refused. The exit status is 0 even if there is no line; 2 is an error.
+Take WHO from the first field of a line of who-can or matrix, and undo its escapes. If WHO is a
+group, --groups and --group are refused. The exit status is 0 even if there is no line; 2 is an
+error.
 
 Examples:
   rbacaudit rules u:alice --groups dev cluster.json namespaced.json
@@ -95,15 +100,17 @@ Examples:
 
 const MATRIX_MORE: &str =
     "A line has seven fields, joined by tabs: who (u:USER or g:GROUP), namespace, verb,
-API group, resource or URL, object name, and the first binding that grants it; - is an empty field.
-With --every there is a line for each binding that grants it, so you see what is left if one is
-deleted. A Universe document lists the principals and requests to ask about. A list that it leaves
-out is made from the files: whom bindings name and every service account, the namespaces, verbs,
-object names and URLs that there are, and the resources of the API resource lists, or of the rules
-if there is no such list.
+API group, resource or URL, object name, and the first binding that grants the request; - is an
+empty field. With --every, a request has a line for each binding that grants it, so you see what is
+left if one of them is deleted.
 
-The last line is end, or next and a TOKEN, joined by a tab, where --limit left rows out:
---after TOKEN goes on from there. The exit status is 0; 2 is an error.
+A Universe document among FILEs lists the principals, namespaces, verbs, resources, object names and
+URLs to ask about. A list that it leaves out is made from the files: the principals that bindings
+name, and every service account; the resources of the API resource lists or, without such lists, of
+the rules; the namespaces, verbs, object names and URLs that occur in the files.
+
+If --limit leaves rows out, the last line is next and a TOKEN, joined by a tab: --after TOKEN lists
+the rows that follow. Otherwise the last line is end. The exit status is 0; 2 is an error.
 
 Examples:
   rbacaudit matrix cluster.json namespaced.json universe.json
@@ -111,10 +118,11 @@ Examples:
   rbacaudit matrix --limit 1000 --after TOKEN cluster.json namespaced.json";
 
 const UNIVERSE_MORE: &str =
-    "matrix over the same files and this document lists the same rows. So keep it, take out what you
-don't want to ask about, and give it to matrix as one more FILE. A list that a Universe document
-among FILEs has is printed as it is; the others are made from the files, as matrix --help says. The
-exit status is 0; 2 is an error.
+    "matrix over the same files and this document lists the same rows as over the files alone. To
+ask about less, delete entries from the document, and pass it to matrix as the last FILE. If a
+Universe document among FILEs has a list, this list is printed; the other lists are made from the
+files, as in matrix --help. Entries are sorted, and each is printed once. The exit status is 0; 2 is
+an error.
 
 Examples:
   rbacaudit universe cluster.json namespaced.json > universe.json
@@ -122,21 +130,22 @@ Examples:
 
 const LINT_MORE: &str = "A line has five fields, joined by tabs; - is an empty field:
   CODE    L1 to L7
-  NAME    what the code stands for, as below
-  OBJECT  the role or other object, as KIND/NAME or KIND/NAMESPACE/NAME
-  PLACE   the number of the rule or subject in it, from 1
+  NAME    the name of the code, as below
+  OBJECT  the role, binding or other object, as KIND/NAME or KIND/NAMESPACE/NAME
+  PLACE   the number of the rule or subject in OBJECT, from 1
   OTHER   a detail: a role, a rule's number, a verb, an account, a count
 
-  L1  dangling-role              a binding refers to a role that is not there
+  L1  dangling-role              a binding refers to a role that does not exist
   L2  unused-role                no binding refers to the role, or to a role that aggregates it
   L3  redundant-rule             another rule of the role allows all that this rule does
   L4  escalation                 a rule lets its holders escalate or bind roles
   L5  account-without-namespace  a ClusterRoleBinding has a service account without a namespace
-  L6  stale-aggregate            the rules written in an aggregated role are not the gathered ones
+  L6  stale-aggregate            the rules written in an aggregated role are not those it gathers
   L7  replaced-object            a later document replaced earlier ones of this object
 
---skip-system leaves out objects whose names begin with system:, and the cluster roles admin, edit,
-view and cluster-admin. The exit status is 1 if a finding is listed, else 0; 2 is an error.
+--skip-system leaves out findings about objects whose names begin with system:, and about the
+cluster roles admin, edit, view and cluster-admin. The exit status is 1 if a finding is listed, else
+0; 2 is an error.
 
 Examples:
   rbacaudit lint cluster.json namespaced.json
@@ -147,7 +156,7 @@ const POWERS_MORE: &str = "A line has eight fields, joined by tabs:
   STEP     what WHO can do, as below
   WHO      u:USER or g:GROUP
   WHERE    the namespace where WHO can do it; * is the whole cluster
-  BINDING  the first binding that grants it
+  BINDING  the first binding that grants the step
   ROLE     the role that the binding names
   SOURCE   the role that contains the rule: ROLE, or a role that an aggregated ROLE gathers
   RULE     the number of the rule in SOURCE, from 1
@@ -161,8 +170,8 @@ const POWERS_MORE: &str = "A line has eight fields, joined by tabs:
   nodes         reach each container of a node through its kubelet
   bind          bind roles that grant more than WHO has
   escalate      write rules that grant more than WHO has
-  certificates  approve client certificates, with which anyone can be signed in
-  webhooks      read and change the objects that others write
+  certificates  approve client certificates, with which one can sign in as any user
+  webhooks      read and change the objects that other users write
 
 A rule that is limited to object names counts only for impersonate, token, bind and escalate. The
 exit status is 0 even if there is no line; 2 is an error.
@@ -172,18 +181,19 @@ Examples:
   rbacaudit powers *.json | grep '^secrets'";
 
 const PATHS_MORE: &str = "A line has eleven fields, joined by tabs:
-  STEPS    the least number of steps that lead from WHO to TO
+  STEPS    the fewest steps from WHO to TO
   TO       u:USER, g:GROUP, a role that can be bound, or * for everything
   WHERE    where the role or * counts: a namespace, or * for the whole cluster; - for u: and g:
-  FROM     the one before TO on the way: WHO, or the TO of a line above
+  FROM     who or what takes over TO: WHO, or the TO of a line above
   WHERE    where FROM counts
   STEP     how FROM takes over TO, as in powers --help
-  BINDING  the first binding that grants FROM this
+  BINDING  the first binding that grants FROM this step
   ROLE     the role that the binding names
   SOURCE   the role that contains the rule: ROLE, or a role that an aggregated ROLE gathers
   RULE     the number of the rule in SOURCE, from 1
   SUBJECT  the number of the first subject in BINDING that is FROM or a group of it, from 1
-If FROM is a role, BINDING and SUBJECT are -; if it is *, all five are. Follow FROM upwards to WHO.
+If FROM is a role, BINDING and SUBJECT are -; if FROM is *, all five fields from BINDING on are -.
+To read a path, look up FROM as the TO of a line above, and so on back to WHO.
 
 WHO is as in rules --help. The exit status is 0 even if there is no line; 2 is an error.
 
@@ -191,22 +201,25 @@ Example:
   rbacaudit paths --steps run,exec,impersonate u:alice cluster.json namespaced.json";
 
 const DIFF_MORE: &str = "A line has eight fields, joined by tabs; - is an empty field:
-  CHANGE     + for what the change allows, - for what it takes away
+  CHANGE     + for a permission that is gained, - for one that is lost
   WHO        u:USER, with any groups, or g:GROUP, for everybody in it
   NAMESPACE  * is every namespace, and requests without one
   VERB       * is any verb
   APIGROUP   * is any API group
-  RESOURCE   * is any, */S any with the subresource S; or a URL, any that begins so if it ends in *
+  RESOURCE   * is any, */S any with the subresource S; or a URL: /x* is any that begins with /x
   NAME       * is any object name, and none
-  BINDING    the first binding that has it, on the side that has it
+  BINDING    the first binding that has the permission, on the side that has it
 
-The state after the change is in the files of --after. Without --after, it is that of --before, less
-the objects that --without names by kind, namespace and name, with those of --with put over.
+The files of --after have the state after the change. Without --after, rbacaudit applies the change
+to the objects of --before: it deletes those with the kind, namespace and name of an object of
+--without, and then adds those of --with, which replace objects of the same kind, namespace and
+name.
 
-It compares all requests that any user can make, in any namespace, but for users who are given the
-group system:unauthenticated, and system:anonymous with given groups. So no + line means that nobody
-may do anything new. Files are numbered in errors in the order of --before, --after, --without and
---with. The exit status is 0 without a line and 1 with one; 2 is an error.
+rbacaudit compares all requests that any user can make, in any namespace. Only impersonation can
+give system:unauthenticated to a signed-in user, or other groups to system:anonymous: such users are
+left out. If there is no + line, nobody may do anything new. Errors number the files in the order of
+--before, --after, --without and --with. The exit status is 0 without a line and 1 with one; 2 is an
+error.
 
 Examples:
   rbacaudit diff --before monday/*.json --after friday/*.json
@@ -220,7 +233,7 @@ const ALL: &str = "Check all namespaces at once: only ClusterRoleBindings grant 
 const WHY: &str = "After yes, print why: BINDING, its ROLE, the SOURCE role, its RULE, the SUBJECT";
 
 const INDIRECT: &str =
-    "List also who comes to it step by step; excludes --anywhere, --any-name, --every and --why";
+    "List also who can take over a holder; excludes --anywhere, --any-name, --every and --why";
 
 const WHO_CAN_STEPS: &str =
     "With --indirect, only these steps count, e.g. run,exec (default: all of powers)";
@@ -303,7 +316,7 @@ fn groups_arg<'a>(alloc: Global) -> Arg<'a>
         alloc,
         "groups",
         "A,B",
-        "Groups of the user beside the implied ones, e.g. dev,ops (default: none)",
+        "Groups of the user, besides those that Kubernetes adds, e.g. dev,ops (default: none)",
     )
 }
 
@@ -315,7 +328,7 @@ fn group_arg<'a>(alloc: Global) -> Arg<'a>
         alloc,
         "group",
         "G",
-        "One more group, whole, commas and all; may be repeated (default: none)",
+        "One more group, whose name may have commas; may be repeated (default: none)",
     )
     .action(ArgAction::Append)
 }
@@ -460,7 +473,7 @@ fn skip_system_arg<'a>(alloc: Global) -> Arg<'a>
     flag(
         alloc,
         "skip-system",
-        "Leave out what Kubernetes brings: system:*, cluster roles admin, edit, view, cluster-admin",
+        "Leave out built-in objects: system:*, cluster roles admin, edit, view and cluster-admin",
     )
 }
 
@@ -656,7 +669,7 @@ fn universe<'a>(alloc: Global) -> Built<'a>
     let command = named(
         alloc,
         "universe",
-        "Print the Universe that matrix makes of the files, as JSON, to cut down and pass to matrix",
+        "Print the Universe that matrix makes of the files, as JSON to edit and pass to matrix",
         UNIVERSE_MORE,
     );
     with(Ok(command), files_arg(alloc))
@@ -669,7 +682,7 @@ fn lint<'a>(alloc: Global) -> Built<'a>
     let command = named(
         alloc,
         "lint",
-        "List what is wrong with the roles: status 1 where something is, else 0; 2 is an error",
+        "List what looks wrong with roles, bindings and other objects: status 1 if something does",
         LINT_MORE,
     );
     let command = with(Ok(command), only_arg(alloc));
@@ -697,7 +710,7 @@ fn paths<'a>(alloc: Global) -> Built<'a>
     let command = named(
         alloc,
         "paths",
-        "List what WHO can come to: each user, group and role it can take over, step by step",
+        "List whom and what WHO can take over, step by step: users, groups, roles and everything",
         PATHS_MORE,
     );
     let command = with_groups(alloc, Ok(command));
@@ -712,7 +725,7 @@ fn diff<'a>(alloc: Global) -> Built<'a>
     let command = named(
         alloc,
         "diff",
-        "List what a change lets users do and takes from them: status 1 if anything changes, else 0",
+        "List the permissions that a change gives or takes away: status 1 if there are any, else 0",
         DIFF_MORE,
     );
     let command = with(Ok(command), before_files_arg(alloc));

@@ -11,9 +11,10 @@ use clap::ArgMatches;
 use rbac_question::HolderOptions;
 use std::alloc::Global;
 
-const ANYWHERE: &str = "Count the bindings of all namespaces, not only of -n; -A overrides this";
+const ANYWHERE: &str =
+    "Count the RoleBindings of all namespaces, not only those of -n; -A overrides this";
 
-const ANY_NAME: &str = "Count rules limited to object names too; a NAME in TARGET isn't looked at";
+const ANY_NAME: &str = "Count rules limited to object names too, and ignore a NAME in TARGET";
 
 const EVERY: &str = "List each holder with every binding that grants it, not only the first";
 

@@ -11,9 +11,10 @@ use clap::ArgMatches;
 use rbac_question::MatrixOptions;
 use std::alloc::Global;
 
-const EVERY: &str = "List every binding that grants, not only the first";
+const EVERY: &str = "List a row for every binding that grants a request, not only for the first";
 
-const ONCE: &str = "Leave out rows that have a namespace and a ClusterRoleBinding";
+const ONCE: &str =
+    "Leave out rows with a namespace and a ClusterRoleBinding: these hold in the whole cluster";
 
 // Adds these options.
 pub(crate) fn with_matrix_options<'a>(alloc: Global, command: Built<'a>) -> Built<'a>
