@@ -14,7 +14,7 @@ pub in_named : (who : Who) (n : Text) → IsAccountIn who n → (m : Text) × Is
 in_named (AsUser user given) n a = (a.0, (a.1, a.2, a.3))
 in_named (AsMember group) n a = elim a [ ]
 
--- what is behind the prefix, the namespace and a colon
+-- a text that begins with a prefix, a namespace and a colon
 module _ (p n m : Text) where
   abbrev front : Text
   front = p ++ n ++ codes ":"

@@ -1,4 +1,4 @@
--- The powers by the subjects of one grant's binding, subject by subject.
+-- The powers by one grant, added for one subject of its binding after another.
 use Rattle.std.proofs.Common.{◌≡◌, ◌⊎◌, ◌<◌, ◌++◌, ◌∷◌, ◌↔◌, [], ℕ, Bool, List, Option, Some, None, IsSome, Any, take, slice_get, inl, inr, refl, sym, ap, ◌∙◌, subst, arith, cond, true, false}
 use Rattle.std.specs.BTreeMap.{get}
 use Rattle.std.specs.Option.{unwrap_or}
@@ -18,7 +18,7 @@ use Rattle.rbac_paths.specs.Finding.{AddsPowers, Found, IsBySubject}
 use Rattle.rbac_paths.specs.Powers.{PowerView, who_and_where}
 use Rattle.rbac_paths.specs.declared.steps.Step.{Step}
 
--- what is there stays there
+-- an entry that is kept is still there
 module _ {X : Type 0} where
   pub still_some : (o now : Option X) → ((y : X) → o ≡ Some y → now ≡ Some y) → IsSome o → IsSome now
   still_some None now kept is = absurd (let both : false ≡ true = is in cc)
@@ -32,7 +32,7 @@ module _ {X : Type 0} where
   none_before None now kept is = refl
   none_before (Some y) now kept is = absurd (let both : Some y ≡ None = sym (kept y refl) ∙ is in cc)
 
--- x is put under a text unless something is there
+-- x is put under the text t, unless old has an entry there
 pub record IsPutUnless (t : Text) (x : PowerView) (old new : Found) : Type 0 where
   pub kept : (k : Text) (y : PowerView) → get text_cmp old k ≡ Some y → get text_cmp new k ≡ Some y
   pub there : IsSome (get text_cmp new t)
@@ -72,14 +72,14 @@ module _ (t : Text) (x v : PowerView) (a b : Found) (o : Option PowerView) (ther
   }
 
 module _ (step : Step) (g : GrantView) where
-  -- the key of a subject
+  -- the subject has this key
   abbrev pub HasThis : Text → Subject → Type 0
   HasThis key s = IsSubjectKey s g.binding.namespace key
 
   pub adds_none : (m : Found) → AddsPowers step g [] m m
   adds_none m = record { kept = λ t y e. e; has = λ key any. absurd (none_any (HasThis key) any); only = λ t y e. inl e }
 
-  -- a subject that has no key
+  -- a subject without a key adds nothing
   pub adds_nobody : (done : List Subject) (s : Subject) (a b : Found) → ((key : Text) → ¬ IsSubjectKey s g.binding.namespace key) → AddsPowers step g done a b → AddsPowers step g (done ++ s ∷ []) a b
   adds_nobody done s a b nobody adds = record {
     kept = adds.kept;
@@ -127,7 +127,7 @@ module _ (step : Step) (g : GrantView) where
       ];
     }
 
--- an earlier subject with the key is among those that were passed
+-- an earlier subject with the key is among the subjects before place i
 pub key_before : (own : Option Text) (key : Text) (subjects : List Subject) (i k : ℕ) (y : Subject) → k < i → slice_get subjects k ≡ Some y → IsSubjectKey y own key → Any (λ s. IsSubjectKey s own key) (take i subjects)
 key_before own key subjects i k y low there has = (
   k,

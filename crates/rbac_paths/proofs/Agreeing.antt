@@ -1,4 +1,5 @@
--- Somebody's paths lead to what allows what is asked for exactly if they are listed among the ways to it.
+-- A principal is listed among the ways to a request exactly if the request is allowed to it, or its
+-- paths list a node that allows the request.
 use Rattle.std.proofs.Common.{◌≡◌, ◌≢◌, ◌↔◌, ◌⊎◌, ◌+◌, ◌<◌, ℕ, zero, suc, List, Bool, Contains, Any, ap, arith, false, inl, inr, refl, subst, sym, true}
 use Rattle.std.specs.Str.{bytes_eq}
 use Rattle.std.proofs.lemmas.Bool.{cases_order}
@@ -25,7 +26,7 @@ same_or_not a b = decided (bytes_eq a b) refl
     decided false isnt = inr (not_from_Decides (bytes_eq a b) (bytes_eq-Decides a b) isnt)
 
 module _ (principals : List Who) (told : AreToldByKeys principals) (who : Who) (among : Contains principals who) where
-  -- one with the key of who is asked about is the one
+  -- each principal is the one asked about, or has another key
   is_one : (other : Who) → Contains principals other → (other ≡ who) ⊎ (who_key other ≢ who_key who)
   is_one other c = elim (same_or_not (who_key other) (who_key who)) [
     | inl same ↦ inl (told other who c among same)
@@ -48,17 +49,19 @@ module _ (principals : List Who) (told : AreToldByKeys principals) (who : Who) (
     abbrev LeadsOn : ℕ → NodeView → Type 0
     LeadsOn n y = LeadsTo (GoesBack p all steps) (AllowsAccess p asked) n y
 
-    -- the end of a way from somewhere that steps lead to
+    -- if k steps lead to y, and n steps lead on from y to a node that allows the request, k + n
+    -- steps lead to such a node
     an_end : (n k : ℕ) (y : NodeView) → LeadsFrom k y → LeadsOn n y → (j : ℕ) × (j ≡ k + n) × ((z : NodeView) × LeadsFrom j z × AllowsAccess p asked z)
     an_end zero k y from allows = (k, omega arith, (y, from, allows))
     an_end (suc n) k y from (z, on, goes) = let (j, sum, end) = an_end n (suc k) z (y, from, goes) on in (j, omega (arith, sum), end)
 
-    -- a way from where a path leads is one from its start
+    -- if n steps lead from the start to y, and m steps lead on from y, then n + m steps lead on
+    -- from the start
     from_start : (n m : ℕ) (y : NodeView) → LeadsFrom n y → LeadsOn m y → (k : ℕ) × (k ≡ n + m) × LeadsOn k start
     from_start zero m y is on = (m, omega arith, subst (LeadsOn m) is on)
     from_start (suc n) m y (x, from, goes) on = let (k, sum, way) = from_start n (suc m) x from (y, on, goes) in (k, omega (arith, sum), way)
 
-    -- a node is the start, or another
+    -- each node is the start or another node
     start_or_not : (y : NodeView) → IsNode p all y → (y ≡ start) ⊎ (y ≢ start)
     start_or_not (Somebody other) is = elim (is_one other ((same other).0 is)) [
       | inl e ↦ inl (ap Somebody e)
@@ -98,11 +101,11 @@ module _ (principals : List Who) (told : AreToldByKeys principals) (who : Who) (
           let (j, sum, (z, from, allows)) = an_end x.count zero start refl (subst (LeadsOn x.count) w.4 is.fewest.leads) in
           there j z from allows
 
-      -- the path to a node of the list
+      -- the listed path to a node that allows the request
       path_at : (w : Any (λ x. AllowsAccess p asked x.node) paths) → IsPath p all steps start w.1
       path_at w = subst (IsPath p all steps start) w.3 (are.each w.0 w.1 w.2)
 
-      -- and the way from the start through it
+      -- as many steps lead on from the start
       way_through : (w : Any (λ x. AllowsAccess p asked x.node) paths) → LeadsOn w.1.count start
       way_through w =
           let (k, sum, way) = from_start w.1.count zero w.1.node (path_at w).fewest.leads w.4 in
@@ -112,7 +115,7 @@ module _ (principals : List Who) (told : AreToldByKeys principals) (who : Who) (
       listed_there (inl allows) = those.complete zero start come allows
       listed_there (inr w) = those.complete w.1.count start come (way_through w)
 
-      -- ---- the fewest steps
+      -- ---- the least number of steps
 
       abbrev Allowed : ℕ → Type 0
       Allowed n = IsAllowedAfter p who asked paths n

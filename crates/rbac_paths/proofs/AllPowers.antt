@@ -1,4 +1,4 @@
--- What was found is all powers of a step, each once.
+-- The powers that were found are all powers of a step, each once.
 use Rattle.std.proofs.Common.{◌≡◌, ◌<◌, ℕ, List, [], refl, sym, ◌∙◌, ap, ap₂, subst, arith, Some, None, Option, AllPairs, Contains, map, length, option_map, get_or, slice_get}
 use Rattle.std.specs.BTreeMap.{get, IsOrdered}
 use Rattle.std.specs.declared.cmp.Ordering.TheVariants.{Less}
@@ -24,7 +24,7 @@ use Rattle.rbac_paths.specs.declared.steps.Step.{Step}
 use Rattle.rbac_paths.proofs.Entries.{strict}
 use Rattle.rbac_paths.proofs.Mapped.{some_is}
 
--- ---- a power is told by its step, who and where
+-- ---- step, who and where determine a power
 
 place_tells : (who other : Text) (a b : Option Text) → who_and_where who a ≡ who_and_where other b → (who ≡ other) × (a ≡ b)
 place_tells who other a b e =
@@ -92,7 +92,7 @@ module _ (p : PolicyView) (ok : IsPolicy p) (step : Step) (m : Found) (up : IsOr
       let w = f.only (power_place x) found.0 found.1 in
       subst (λ (z : PowerView). Contains (powers_in m.entries) z) (sym (one_power p step x found.0 is w.1 a w.2 w.0)) (in_list (power_place x) found.0 found.1)
 
-  -- each grant's powers are found
+  -- the powers by each grant are found
   pub with_grants : AreWithGrants p step (powers_in m.entries)
   with_grants n g key here gives has =
       let place = of_some_binding p ok n (slice_get_within p.grants n g here) in

@@ -1,4 +1,4 @@
--- The powers of the steps that were passed, one step after the other.
+-- The powers of several steps, one step after the other.
 use Rattle.std.proofs.Common.{◌≡◌, ◌++◌, ◌∷◌, [], ◌∙◌, List, Any, Contains, length, ap, arith, inl, inr, refl, subst, sym, append_assoc, append-nil}
 use Rattle.std.proofs.lemmas.List.Elements.{Contains-append_cases, Contains-append_left, Contains-append_right}
 use Rattle.rbac_model.proofs.OwnWords.{any_from}
@@ -8,12 +8,12 @@ use Rattle.rbac_paths.specs.Powers.{ArePowersIn, ArePowersOf, GivesStep, IsPower
 use Rattle.rbac_paths.specs.declared.steps.Step.{Step}
 use Rattle.rbac_paths.proofs.Choosing.{among, only}
 
--- the powers of these steps, each grant's among them
+-- the powers of these steps, with the powers by each grant among them
 pub record ArePowersTo (p : PolicyView) (steps : List Step) (xs : List PowerView) : Type 0 where
   pub powers : ArePowersIn p steps xs
   pub grants : (step : Step) → Contains steps step → AreWithGrants p step xs
 
--- no step was passed
+-- no powers for no steps
 pub to_none : (p : PolicyView) (xs : List PowerView) → xs ≡ [] → ArePowersTo p [] xs
 to_none p xs none = record { powers = none; grants = λ step c. absurd (omega (arith, c.1)) }
 
@@ -34,7 +34,7 @@ module _ {X : Type 0} (P : X → Type 0) (xs ys : List X) where
   any_right : Any P ys → Any P (xs ++ ys)
   any_right a = any_from P (xs ++ ys) a.1 (Contains-append_right xs ys a.1 (a.0, a.2, a.3)) a.4
 
--- the powers of one step more
+-- the powers of one more step
 pub to_next : (p : PolicyView) (steps : List Step) (step : Step) (xs own : List PowerView) → ArePowersTo p steps xs → ArePowersOf p step own → AreWithGrants p step own → ArePowersTo p (steps ++ step ∷ []) (xs ++ own)
 to_next p steps step xs own to are with_own = record {
   powers = one_more p steps step xs own to.powers are;
@@ -46,7 +46,7 @@ to_next p steps step xs own to are with_own = record {
       ]);
 }
 
--- each of them is a power
+-- each listed power is a power
 pub each_power : (p : PolicyView) (steps : List Step) (xs : List PowerView) → ArePowersIn p steps xs → (x : PowerView) → Contains xs x → IsPower p x
 each_power p [] xs none x c = absurd (omega (arith, c.1, ap length none))
 each_power p (s ∷ steps) xs (own, rest, of, others, is) x c = elim (Contains-append_cases own rest x (subst (λ (ys : List PowerView). Contains ys x) is c)) [
@@ -54,7 +54,7 @@ each_power p (s ∷ steps) xs (own, rest, of, others, is) x c = elim (Contains-a
   | inr later ↦ each_power p steps rest others x later
 ]
 
--- and each power of one of the steps is among them
+-- each power of one of the steps is listed
 pub each_listed : (p : PolicyView) (steps : List Step) (xs : List PowerView) → ArePowersIn p steps xs → (x : PowerView) → Contains steps x.step → IsPower p x → Contains xs x
 each_listed p [] xs none x c is = absurd (omega (arith, c.1))
 each_listed p (s ∷ steps) xs (own, rest, of, others, e) x c is = subst (λ (ys : List PowerView). Contains ys x) (sym e) (elim (Contains-append_cases (s ∷ []) steps x.step c) [

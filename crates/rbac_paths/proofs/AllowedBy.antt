@@ -1,4 +1,4 @@
--- What a node has decides what it allows, and so what it takes over.
+-- The holdings of a node decide which requests it allows, and so what it can take over.
 use Rattle.std.proofs.Common.{◌≡◌, ◌∷◌, [], List, Option, Some, Any, ap, arith, inl, inr, length, length-append, refl, subst, sym}
 use Rattle.std.specs.Prelude.{codes}
 use Rattle.rbac_terms.specs.Matching.{EndsInStar, RuleAllows, VerbOk}
@@ -16,7 +16,7 @@ use Rattle.rbac_paths.specs.Told.{HoldingTakes, HoldingsTake}
 use Rattle.rbac_paths.specs.declared.steps.Step.{Step}
 use Rattle.rbac_paths.proofs.ByRules.{rule_takes, takes_over}
 
--- ---- everything is allowed by the rule that allows everything
+-- ---- the rule that allows every request
 
 no_star : EndsInStar [] → ⊥
 no_star w = absurd (omega (arith, ap length w.1, length-append w.0 (star ∷ [])))
@@ -29,7 +29,7 @@ all_allowed verb (Resource group text name) =
     (every_verb verb, ((0, codes "*", omega arith, refl, inl refl), (0, codes "*", omega arith, refl, inl (inl refl)), inl refl))
 all_allowed verb (Url path) = (every_verb verb, (0, codes "*", omega arith, refl, inr ([], 0, refl, no_star, (path, refl))))
 
--- ---- what a node has
+-- ---- which requests the holdings of a node allow
 
 module _ (namespace verb : Text) (t : What) where
   live_there : (home other : Option Text) → home ≡ other → Live other namespace t → Live home namespace t
@@ -67,7 +67,7 @@ allow_by p ok (EverythingIn scope) namespace verb t = (
   λ w. live_there namespace verb t scope w.0.home w.1.0 w.2,
 )
 
--- ---- what that takes over
+-- ---- what the holdings of a node take over
 
 module _ (p : PolicyView) (ok : IsPolicy p) (x : NodeView) (hs : List HoldingView) (are : AreHoldings p x hs) (step : Step) (y : NodeView) where
   pub by_holdings : HoldingsTake step hs y → CanTakeOver p x step y

@@ -1,4 +1,5 @@
--- A rule allows some request of a row exactly if it matches a verb, the API group, a resource and a name of it.
+-- A rule allows a request of a row exactly if it matches a verb, the API group, a resource and an
+-- object name of the row.
 use Rattle.std.proofs.Common.{List, [], ◌∷◌, ◌↔◌, inl, inr, refl, arith, subst, Any}
 use Rattle.rbac_terms.specs.Text.{Text}
 use Rattle.rbac_terms.specs.Matching.{NameMatches, VerbOk, WordMatches}
@@ -9,7 +10,7 @@ use Rattle.rbac_paths.specs.Rows.{HasRowName, HasRowResource}
 use Rattle.rbac_paths.specs.Steps.{AllowsRow, StepRowView}
 use Rattle.rbac_paths.specs.declared.table.Names.TheVariants as names
 
--- rules match some name
+-- the names of a rule always match some object name
 pub some_name : (names : List Text) → (name : Text) × NameMatches names name
 some_name [] = ([], inl refl)
 some_name (n ∷ ns) = (n, inr (0, omega arith, refl))
@@ -39,7 +40,7 @@ row_allowed r rule a = (
   (a.name, a.named, a.allows.1.2),
 )
 
--- of what has a name
+-- requests for a node with its own name
 pub allows_row_for : (r : StepRowView) (own : Text) (rule : Rule) → Any (VerbOk rule) r.verbs → Any (λ w. WordMatches w r.group) rule.groups → Any (HasRowResource rule) r.resources → HasRowNameFor r.names own rule → AllowsRowFor r own rule
 allows_row_for r own rule v g x n = record {
   verb = v.1;

@@ -1,4 +1,4 @@
--- What is asked of somebody.
+-- The namespace and the name in requests that take over a user or a group.
 use Rattle.std.proofs.Common.{◌≡◌, ◌↔◌, ◌∙◌, [], Option, Some, None, MatchOption, Bor, is_some, false, true, refl, sym}
 use Rattle.rbac_terms.specs.Text.{Text}
 use Rattle.rbac_terms.specs.Principals.{Who, AsUser, AsMember, who_name}
@@ -8,7 +8,7 @@ use Rattle.rbac_paths.specs.Taking.{IsOver}
 use Rattle.rbac_paths.specs.declared.table.Counts.{Counts}
 use Rattle.rbac_paths.specs.declared.table.Over.TheVariants as over
 
--- the account, or none
+-- the namespace and the name of a service account, if the principal is one
 module _ (who : Who) where
   abbrev pub IsPartsOf : (Bor Text × Bor Text) → Type 0
   IsPartsOf parts = (n m : Text) → IsAccountNamed who n m ↔ ((n ≡ parts.0.now) × (m ≡ parts.1.now))

@@ -1,4 +1,4 @@
--- Each path begins with a power of who is asked about.
+-- Each path from a principal begins with a step that is one of its powers.
 use Rattle.std.proofs.Common.{◌≡◌, ◌∙◌, ◌<◌, ℕ, zero, suc, List, [], ◌∷◌, Any, Contains, Option, Some, slice_get, ap, arith, refl, subst, sym}
 use Rattle.std.proofs.lemmas.Option.{slice_get-get_or}
 use Rattle.rbac_terms.specs.Text.{Text}
@@ -19,7 +19,7 @@ use Rattle.rbac_paths.specs.declared.steps.Step.{Step}
 use Rattle.rbac_paths.proofs.AllSteps.{each_listed}
 use Rattle.rbac_paths.proofs.Telling.{given, in_steps}
 
--- ---- where no element is the first with a property, none has it
+-- ---- if no element is the first with a property, no element has it
 
 module _ {X : Type 0} (P : X → Type 0) (xs : List X) (no_first : (i : ℕ) (x : X) → ¬ IsFirstAt P xs i x) where
   none_below : (n i : ℕ) (x : X) → i < n → slice_get xs i ≡ Some x → ¬ P x
@@ -30,7 +30,7 @@ module _ {X : Type 0} (P : X → Type 0) (xs : List X) (no_first : (i : ℕ) (x 
   none_has : (i : ℕ) (x : X) → slice_get xs i ≡ Some x → ¬ P x
   none_has i x = none_below (suc i) i x (omega arith)
 
--- ---- a grant that gives a key a step means a power
+-- ---- if a key has no power of a step, no grant gives it the step
 
 module _ (p : PolicyView) (step : Step) (key : Text) (no_power : (x : PowerView) → IsPower p x → x.step ≡ step → ¬ (x.who ≡ key)) where
   no_first_grant : (home : Option Text) (n : ℕ) (g : GrantView) → ¬ IsFirstAt (GivesThere step key home) p.grants n g
@@ -46,15 +46,15 @@ module _ (p : PolicyView) (step : Step) (key : Text) (no_power : (x : PowerView)
   no_grant n g here gives has =
       let home = g.binding.namespace in none_has (GivesThere step key home) p.grants (no_first_grant home) n g here (refl, has, gives)
 
--- ---- and what somebody takes over means such a grant
+-- ---- if a principal takes over a node, a grant gives it the step
 
 module _ (p : PolicyView) (all : List Who) (steps : List Step) (who : Who) where
-  -- steps that lead on from somebody begin with one that they take
+  -- the steps that lead on from a principal begin with a step that it takes
   first_step : (n : ℕ) (y : NodeView) → LeadsTo (GoesTo p all steps) (λ y. y ≡ Somebody who) (suc n) y → (z : NodeView) × GoesTo p all steps (Somebody who) z
   first_step zero y (x, is, goes) = (y, subst (λ (z : NodeView). GoesTo p all steps z y) is goes)
   first_step (suc n) y (x, from, goes) = first_step n x from
 
-  -- whom somebody takes over by a step, they can take the step
+  -- if a principal can take over a node by a step, it can take the step
   can_take : (step : Step) (y : NodeView) (c : CanTakeOver p (Somebody who) step y) → CanTake p who step c.namespace
   can_take step y c = record {
     row = c.row;

@@ -1,4 +1,4 @@
--- The names of the rules that let one bind roles.
+-- The object names of the rules that let one bind roles.
 use Rattle.std.proofs.Common.{◌≡◌, ◌↔◌, [], List, Any, Contains, arith, inl, inr}
 use Rattle.std.specs.List.Retain.{DiffersFromLast, IsFiltered}
 use Rattle.std.specs.List.Sorted.{IsPermutation, IsSorted}
@@ -31,10 +31,11 @@ module _ (rows : List StepRowView) (of : AreOfStep Bind table rows) (rule : Rule
   pub binds_none : (Any (λ row. MatchesRow row rule) rows → ⊥) → (name : Text) → BindsNamed rule name → ⊥
   binds_none none name b = let a = b.0 in none (any_from (λ row. MatchesRow row rule) rows a.1 ((of a.1).1 ((a.0, a.2, a.3), a.4.0)) a.4.1)
 
--- the names of roles, and then those of cluster roles
+-- the names in the rules of these Roles are added
 abbrev pub AddsOfRoles : List Role → List Text → List Text → Type 0
 AddsOfRoles roles old new = AddsOf (λ role name. Any (λ rule. BindsNamed rule name) role.rules) roles old new
 
+-- the names in the rules of these cluster roles are added
 abbrev pub AddsOfClusterRoles : List ClusterRole → List Text → List Text → Type 0
 AddsOfClusterRoles roles old new = AddsOf (λ role name. Any (λ rule. BindsNamed rule name) role.rules) roles old new
 
@@ -53,7 +54,7 @@ both_add h names (between, first, second) name = (
   ],
 )
 
--- what a sort and then a dedup leave
+-- after a sort and a dedup, the names are exactly the bound names, in order
 pub names_are : (h : Held) (all sorted once : List Text) → AddsOfBoth h.roles h.cluster_roles all → IsPermutation all sorted → IsSorted text_cmp sorted → IsFiltered (DiffersFromLast bytes_eq) [] sorted once → AreBoundNames h once
 names_are h all sorted once adds moved up kept =
     let e = dedup_is bytes_eq sorted once kept in

@@ -1,4 +1,5 @@
--- Bindings that are marked by their grants, and grants that are listed by their bindings, one grant after another.
+-- Bindings that are marked by their grants, and grants that are listed by their bindings, one grant
+-- after another.
 use Rattle.std.proofs.Common.{◌≡◌, ◌↔◌, ◌∙◌, ◌<◌, ◌+◌, ◌++◌, ◌∷◌, [], ℕ, Bool, List, Any, Contains, IsTrue, Some, ap, arith, false, get_or, get_or-set_other, get_or-set_same, inl, inr, length, replicate, set, subst, sym, true}
 use Rattle.std.proofs.Math.ListN.{get_or-eq_default, length-set}
 use Rattle.std.proofs.lemmas.Bool.{cases_eq, cases_lt}
@@ -16,7 +17,7 @@ use Rattle.rbac_paths.specs.Aims.{Serves}
 use Rattle.rbac_paths.specs.Allowed.{MarkAllowing}
 use Rattle.rbac_paths.specs.Nodes.{Somebody}
 
--- the bindings of those of the first grants, as many as that, that have the property
+-- marked are exactly the bindings of the first `count` grants that have the property
 pub record AreMarkedBelow (p : PolicyView) (P : ℕ → Type 0) (count : ℕ) (marks : List Bool) : Type 0 where
   pub len : length marks ≡ length p.held.bindings
   pub each : (at : ℕ) → IsTrue (get_or marks at false) ↔ ((n : ℕ) × (n < count) × IsOfBinding p n at × P n)
@@ -78,12 +79,12 @@ module _ (p : PolicyView) (ok : IsPolicy p) (P : ℕ → Type 0) where
       λ w. (below.each at).1 (w.0, (let low = slice_get_within p.grants w.0 w.1.0 w.1.1 in omega (arith, low, end)), w.1, w.2),
     )
 
--- those of the first grants, as many as that, that have the property, listed at their bindings
+-- the first `count` grants that have the property are listed, each at the place of its binding
 pub record AreListedBelow (p : PolicyView) (P : ℕ → Type 0) (count : ℕ) (lists : List (List ℕ)) : Type 0 where
   pub len : length lists ≡ length p.held.bindings
   pub each : (n at : ℕ) → Contains (get_or lists at []) n ↔ ((n < count) × IsOfBinding p n at × P n)
 
--- a binding's list is there
+-- the binding of a grant has a list
 pub list_there : (p : PolicyView) (n place : ℕ) (lists : List (List ℕ)) → length lists ≡ length p.held.bindings → IsOfBinding p n place → place < length lists
 list_there p n place lists len of = let low = slice_get_within p.held.bindings place of.0.binding of.2 in omega (arith, low, len)
 
@@ -163,7 +164,7 @@ module _ (p : PolicyView) (ok : IsPolicy p) (P : ℕ → Type 0) where
       λ w. (below.each n at).1 ((let low = slice_get_within p.grants n w.0.0 w.0.1 in omega (arith, low, end)), w.0, w.1),
     )
 
--- somebody is allowed what is asked for exactly if a binding that names them is marked
+-- a request is allowed to a principal exactly if a binding that names it is marked
 pub allowed_named : (p : PolicyView) → IsPolicy p → (who : Who) (asked : AccessView) (marks : List Bool) (places : List ℕ) → MarkAllowing p asked marks → AreNamedPlaces p who places
     → Any (λ place. IsTrue (get_or marks place false)) places ↔ AllowsAccess p asked (Somebody who)
 unfolding Serves

@@ -1,4 +1,4 @@
--- A node takes over another by a rule that it has, and by no other way.
+-- A node can take over another node exactly by the rules that it has.
 use Rattle.std.proofs.Common.{◌≡◌, Option}
 use Rattle.rbac_terms.specs.Matching.{RuleAllows}
 use Rattle.rbac_terms.specs.Targets.{Resource, What}
@@ -13,7 +13,8 @@ use Rattle.rbac_paths.specs.Taking.{CanTakeOver, RowTakes, RuleTakes}
 use Rattle.rbac_paths.specs.declared.steps.Step.{Step}
 
 module _ (p : PolicyView) (x : NodeView) (step : Step) (y : NodeView) (home : Option Text) (rule : Rule) where
-  -- by a rule whose requests it is allowed where the rule counts
+  -- if a node allows the requests of a rule where the rule counts, it can take over what the rule
+  -- takes over
   pub takes_over : ((namespace verb : Text) (t : What) → Live home namespace t → RuleAllows rule verb t → NodeAllows p x namespace verb t) → RuleTakes step home rule y → CanTakeOver p x step y
   takes_over allowed gives =
       let row = gives.1 in
@@ -34,7 +35,7 @@ module _ (p : PolicyView) (x : NodeView) (step : Step) (y : NodeView) (home : Op
         allowed = allowed (asked_in row.counts takes.namespace) takes.verb (Resource row.group takes.text takes.name) takes.live takes.allows;
       }
 
-  -- the rule that allows the request
+  -- a rule that allows the request by which a node is taken over takes over this node
   pub rule_takes : (c : CanTakeOver p x step y) → Live home (asked_in c.row.counts c.namespace) (Resource c.row.group c.text c.name) → RuleAllows rule c.verb (Resource c.row.group c.text c.name) → RuleTakes step home rule y
   rule_takes c live allows =
       let takes : RowTakes c.row home rule y = record {

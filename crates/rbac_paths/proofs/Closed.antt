@@ -1,4 +1,5 @@
--- A role that is told as taken over has a name that some rule binds: who may bind any role of a scope takes over everything there.
+-- Each role that is taken over has a name that some rule lets one bind. A node that may bind any
+-- role of a scope takes over everything there, so its roles are left out.
 use Rattle.std.proofs.Common.{◌≡◌, ◌≢◌, ◌∙◌, ◌⊎◌, ◌+◌, Bool, false, true, cond, filter, ℕ, zero, suc, List, [], ◌∷◌, Option, Some, None, Any, Contains, ap, arith, inl, inr, refl, slice_get, subst, sym}
 use Rattle.std.specs.Prelude.{codes}
 use Rattle.std.specs.List.{flat_map}
@@ -124,7 +125,7 @@ over_role over.Everything counts role namespace own is = elim is [ ]
 over_role over.ClusterRoles counts role namespace own is = elim is [ ]
 over_role over.Roles counts role namespace own is = refl
 
--- one row alone takes over cluster roles, and one alone roles of namespaces
+-- exactly one row takes over cluster roles, and exactly one takes over Roles
 in_either : (b : Bool) (x : StepRowView) (rows : List StepRowView) (r : StepRowView) → Contains rows r → Contains (cond b (x ∷ rows) rows) r
 in_either true x rows r c = (suc c.0, omega (arith, c.1), c.2)
 in_either false x rows r c = c
@@ -154,12 +155,13 @@ one_of_roles r c is =
     let kept : Contains (bind_by_name (codes "roles") over.Roles ∷ []) r = is_kept (λ x. over_roles x.over) table r c (ap over_roles is) in
     sym (one_element (bind_by_name (codes "roles") over.Roles) r kept)
 
--- the name of a target doesn't say where it is live
+-- where a binding is live for a resource doesn't depend on the object name
 live_as : (home : Option Text) (asked group text name other : Text) → Live home asked (Resource group text name) → Live home asked (Resource group text other)
 live_as None asked group text name other live = live
 live_as (Some own) asked group text name other live = live
 
--- who binds by a rule without names binds all; otherwise the name is one of the rule's
+-- a rule without names that binds a role takes over everything in the scope; a rule with names has
+-- the role's name
 module _ (home : Option Text) (rule : Rule) (resource : Text) (o : Over) (at : Contains table (bind_by_name resource o)) (among : (t : Text) → Contains (resource ∷ []) t → Contains (codes "clusterroles" ∷ codes "roles" ∷ []) t) (y : NodeView) (scope : Option Text)
     (there : (namespace own : Text) → IsOver o counted.InNamespaces y namespace own → namespace ≡ scope_namespace scope) where
   abbrev pub NamedOrAll : RowTakes (bind_by_name resource o) home rule y → Type 0
@@ -205,7 +207,7 @@ in_two_last : (t : Text) → Contains (codes "roles" ∷ []) t → Contains (cod
 in_two_last t (zero, low, is) = (1, omega arith, is)
 in_two_last t (suc k, low, is) = absurd (omega (arith, low))
 
--- who goes on with roles isn't everything
+-- everything in a scope leads to no role
 no_everything : (x y : NodeView) → IsNobody y → MayGoOn x y → (scope : Option Text) → x ≢ EverythingIn scope
 no_everything (Somebody who) y is on scope e = cc
 no_everything (ClusterRoleIn role home) y is on scope e = cc
@@ -216,7 +218,7 @@ no_everything (EverythingIn (Some namespace)) (ClusterRoleIn role home) is on sc
 no_everything (EverythingIn (Some namespace)) (OwnRole role) is on scope e = elim on [ ]
 no_everything (EverythingIn (Some namespace)) (EverythingIn home) is on scope e = elim on [ ]
 
--- a written rule that binds the name makes it one that is bound
+-- a name that a written rule lets one bind is a bound name
 bound_by : (h : Held) (rule : Rule) (name : Text) → BindsNamed rule name → IsWritten h rule → IsBoundName h name
 bound_by h rule name binds (inl (k, role, low, is, there)) = inl (k, role, low, is, any_from (λ r. BindsNamed r name) role.rules rule there binds)
 bound_by h rule name binds (inr (k, role, low, is, there)) = inr (k, role, low, is, any_from (λ r. BindsNamed r name) role.rules rule there binds)

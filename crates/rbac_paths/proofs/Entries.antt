@@ -1,4 +1,4 @@
--- The entries of a map under texts, in order of these.
+-- The entries of a map whose keys are texts, in order of the keys.
 use Rattle.std.proofs.Common.{◌≡◌, ◌∷◌, [], AllPairs, List, arith}
 use Rattle.std.specs.List.{AllByRecursion}
 use Rattle.std.specs.List.Sorted.{IsStrictlySortedBy}

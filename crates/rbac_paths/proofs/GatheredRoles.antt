@@ -11,7 +11,7 @@ use Rattle.rbac_model.proofs.Stairs.{read_contains, reached_held}
 use Rattle.rbac_model.proofs.UpTo.{all_kept, none_yet, not_more, one_more}
 use Rattle.rbac_paths.specs.Told.{IsSourceAt}
 
--- these are the sources before a place
+-- these are the roles that the cluster role gathers from, among the places below `to`
 abbrev pub AreSourcesTo : Held → ClusterRole → ℕ → List ClusterRole → Type 0
 AreSourcesTo h r to ss = (ks : List ℕ) × IsUpTo (IsSourceAt h r) ks to × (ss ≡ filter_map (slice_get h.cluster_roles) ks)
 
@@ -31,7 +31,7 @@ module _ (h : Held) (r : ClusterRole) where
   pub no_source_more : (to : ℕ) (ss : List ClusterRole) → ¬ IsSourceAt h r to → AreSourcesTo h r to ss → AreSourcesTo h r (to + 1) ss
   no_source_more to ss isnt (ks, up, are) = (ks, not_more (IsSourceAt h r) ks to isnt up, are)
 
-  -- all of them
+  -- all roles that the cluster role gathers from
   module _ (held : IsHeld h) (ks : List ℕ) (up : IsUpTo (IsSourceAt h r) ks (length h.cluster_roles)) where
     exact : (k : ℕ) → Contains ks k ↔ IsSourceAt h r k
     exact = all_kept (IsSourceAt h r) ks (length h.cluster_roles) (λ k p. slice_get_within h.cluster_roles k p.0.0 p.0.1) up

@@ -36,7 +36,7 @@ module _ (p : PolicyView) (step : Step) where
     there : slice_get p.held.bindings count ≡ Some g.binding
     there = first.of_binding.2 ∙ ap (λ (x : GrantView). Some x.binding) (same_Some first.of_binding.0 g (sym first.of_binding.1 ∙ here))
 
-    -- no grant before this one gives the key the step there, since nothing was found there
+    -- no earlier grant gives the step to the key there, because no power was found there
     none_earlier : (t key : Text) → get text_cmp a t ≡ None → t ≡ who_and_where key g.binding.namespace → (m : ℕ) (z : GrantView) → m < n → slice_get p.grants m ≡ Some z → GivesThere step key g.binding.namespace z → ⊥
     none_earlier t key none same m z low at (where_is, has, gives) =
         let place = of_some_binding p ok m (slice_get_within p.grants m z at) in
@@ -49,7 +49,7 @@ module _ (p : PolicyView) (step : Step) where
     has_key : (key : Text) (i : ℕ) (s : Subject) → IsFirstAt (λ s. IsSubjectKey s g.binding.namespace key) g.binding.subjects i s → HasKey g.binding key
     has_key key i s at = (i, s, slice_get_within g.binding.subjects i s at.here, get_or_from_slice_get g.binding.subjects i s s at.here, at.holds)
 
-    -- what is added is a power
+    -- the entry that is added is a power
     new_power : (t key : Text) (i : ℕ) → get text_cmp a t ≡ None → t ≡ who_and_where key g.binding.namespace → (s : Subject) × IsFirstAt (λ s. IsSubjectKey s g.binding.namespace key) g.binding.subjects i s → IsPower p (record { step = step; who = key; grant = g; subject_place = i })
     new_power t key i none same subject = record {
       grant = (

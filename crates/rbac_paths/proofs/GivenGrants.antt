@@ -1,4 +1,4 @@
--- What somebody has, grant by grant.
+-- The holdings of a principal, grant by grant.
 use Rattle.std.proofs.Common.{◌≡◌, ◌<◌, ◌≤◌, ◌∙◌, ◌+◌, ◌++◌, ◌∷◌, ◌↔◌, [], ℕ, List, Option, Some, Contains, ap, ap₂, arith, inl, inr, slice_get, subst, sym}
 use Rattle.std.proofs.lemmas.Bool.{cases_lt}
 use Rattle.std.proofs.lemmas.List.Elements.{Contains-append_left, Contains-push, Contains-push_cases}
@@ -44,13 +44,13 @@ module _ (p : PolicyView) (start : ℕ) where
     ]),
   )
 
--- ---- the runs of somebody, one after the other
+-- ---- the runs of a principal's grants, one after the other
 
--- the holding is by a grant before that number whose binding names somebody
+-- the holding is given by a grant with a number below `count` whose binding names the principal
 abbrev pub IsGivenBefore : PolicyView → Who → ℕ → HoldingView → Type 0
 IsGivenBefore p who count h = (number : ℕ) × (g : GrantView) × (number < count) × (slice_get p.grants number ≡ Some g) × BindingNames g.binding who × (grant_holding g ≡ h)
 
--- exactly those
+-- exactly these holdings
 abbrev pub AreGivenBefore : PolicyView → Who → ℕ → List HoldingView → Type 0
 AreGivenBefore p who count hs = (h : HoldingView) → Contains hs h ↔ IsGivenBefore p who count h
 
@@ -78,7 +78,7 @@ module _ (p : PolicyView) (who : Who) where
     ]),
   )
 
-  -- no grants are left
+  -- if no later grant is the principal's, these are all its holdings
   pub all_given : (count : ℕ) (hs : List HoldingView) → ((number : ℕ) → count ≤ number → ¬ IsNamedBy p who number) → AreGivenBefore p who count hs → AreHoldings p (Somebody who) hs
   all_given count hs none are h = (
     λ c.

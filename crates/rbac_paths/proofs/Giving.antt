@@ -1,4 +1,5 @@
--- What the rows of a step say of a rule is what the table says.
+-- A rule allows a request of the rows of a step exactly if it allows a request of the step by the
+-- table.
 use Rattle.std.proofs.Common.{◌≡◌, ◌≤◌, ◌<◌, ◌↔◌, ℕ, List, Option, Some, ◌∙◌, ap, sym, subst, refl, Any, length, slice_get}
 use Rattle.std.proofs.lemmas.Option.{same_Some}
 use Rattle.rbac_terms.specs.Text.{Text}
@@ -21,18 +22,18 @@ module _ (step : Step) (rows : List StepRowView) (of : AreOfStep step table rows
   pub in_rows : AllowsStep step namespace rule → Any (AllowsIn namespace rule) rows
   in_rows a = any_from (AllowsIn namespace rule) rows a.1 ((of a.1).1 ((a.0, a.2, a.3), a.4.0)) a.4.1
 
--- a grant of the binding at a place has that binding
+-- the binding of a grant is the binding at the grant's place
 pub own_binding : (p : PolicyView) (n place : ℕ) (g : GrantView) (b : Binding) → slice_get p.grants n ≡ Some g → IsOfBinding p n place → slice_get p.held.bindings place ≡ Some b → g.binding ≡ b
 own_binding p n place g b here of there =
     ap (λ (x : GrantView). x.binding) (same_Some g of.0 (sym here ∙ of.1)) ∙ same_Some of.0.binding b (sym of.2 ∙ there)
 
--- the rows allow nothing by the grants from one number up to another
+-- the grants from one number up to another allow no request of these rows
 abbrev pub AllowsNone : PolicyView → List StepRowView → ℕ → ℕ → Type 0
 AllowsNone p rows from end = (k : ℕ) (g : GrantView) → from ≤ k → k < end → slice_get p.grants k ≡ Some g → ¬ Any (AllowsIn g.binding.namespace g.rule.rule) rows
 
 module _ (p : PolicyView) (rows : List StepRowView) (from end place : ℕ) (step : Step) (of : AreOfStep step table rows)
     (between : (n at : ℕ) → IsOfBinding p n at → ((from ≤ n) × (n < end)) ↔ (at ≡ place)) where
-  -- no grant of the binding gives the step, if the rows allow nothing by any of them
+  -- if no grant of the binding allows a request of these rows, none gives the step
   pub gives_none : AllowsNone p rows from end → GivesNone p step place
   gives_none none n g (here, is) gives =
       let within = (between n place is).1 refl in

@@ -1,4 +1,4 @@
--- The words that somebody's grants take.
+-- The words that the grants of a principal take.
 use Rattle.std.proofs.Common.{◌≡◌, ◌↔◌, ◌++◌, ◌∙◌, ◌∷◌, [], ℕ, List, None, Option, Some, Any, Contains, ap, arith, inl, inr, refl, slice_get, subst, suc, sym, zero}
 use Rattle.std.proofs.lemmas.List.Elements.{Contains-append_cases, Contains-append_left, Contains-append_right}
 use Rattle.std.proofs.lemmas.Option.{same_Some}
@@ -18,7 +18,7 @@ use Rattle.rbac_paths.proofs.WhatDecides.{given_decide}
 use Rattle.rbac_paths.proofs.WordsTaken.{takes_by_words}
 
 module _ (p : PolicyView) where
-  -- ---- what grants with some numbers give
+  -- ---- the holdings that the grants with some numbers give
 
   abbrev one_given : Option GrantView → List HoldingView
   one_given None = []
@@ -54,7 +54,7 @@ module _ (p : PolicyView) where
   pub give : (ns : List ℕ) → GiveHoldings p ns (given ns)
   give ns h = (from_given ns h, λ w. to_given ns w.0 w.1 h w.2.0 w.2.1 w.2.2)
 
-  -- ---- the words that they take
+  -- ---- the words that these holdings take
 
   same_words : (steps : List Step) (ns : List ℕ) (w : Text) → Any (GrantTakesWord p steps w) ns ↔ TakeWord steps (given ns) w
   same_words steps ns w = (

@@ -1,4 +1,4 @@
--- What grants let somebody take over.
+-- What a principal can take over by grants.
 use Rattle.std.proofs.Common.{◌≡◌, ◌∙◌, ℕ, Some, ap, slice_get}
 use Rattle.std.proofs.lemmas.Option.{get_or_from_slice_get, slice_get-get_or, slice_get_within}
 use Rattle.rbac_terms.specs.Principals.{Who}
@@ -11,11 +11,11 @@ use Rattle.rbac_paths.specs.Taking.{CanTakeOver, RuleTakes}
 use Rattle.rbac_paths.specs.declared.steps.Step.{Step}
 use Rattle.rbac_paths.proofs.ByRules.{rule_takes, takes_over}
 
--- the grant lets somebody take over the node by the step
+-- by the grant, the principal can take over the node by the step
 abbrev pub GrantTakes : Who → Step → NodeView → GrantView → Type 0
 GrantTakes who step y g = BindingNames g.binding who × RuleTakes step g.binding.namespace g.rule.rule y
 
--- what grants let somebody do is what they are allowed
+-- a principal can take over a node exactly by some grant
 module _ (p : PolicyView) (ok : IsPolicy p) (who : Who) (step : Step) (y : NodeView) where
   pub by_grant : (n : ℕ) (g : GrantView) → slice_get p.grants n ≡ Some g → GrantTakes who step y g → CanTakeOver p (Somebody who) step y
   by_grant n g here (named, gives) =

@@ -1,4 +1,5 @@
--- The graph that is joined by words and by single edges has an edge exactly where a node takes over another.
+-- The graph that is joined by words and by single edges has an edge from a node to another exactly
+-- if the first takes over the second.
 use Rattle.std.proofs.Common.{◌≡◌, ◌↔◌, ◌⊎◌, ◌∙◌, ◌<◌, ◌+◌, ◌++◌, ℕ, List, [], ◌∷◌, Some, IfOk, Result, Ok, Err, Contains, ap, arith, get_or, inl, inr, length, slice_get, subst, sym}
 use Rattle.std.proofs.lemmas.Bool.{cases_lt}
 use Rattle.std.proofs.lemmas.List.{get_or_append_left, get_or_at, length_push}
@@ -13,12 +14,12 @@ use Rattle.rbac_paths.specs.Paths.{IsGraphOf}
 use Rattle.rbac_paths.specs.TakingOver.{TakesOver}
 use Rattle.rbac_paths.specs.declared.steps.Step.{Step}
 
--- two facts of what went well are one
+-- two facts about a result that is `Ok` give a third
 pub ok_both : {X E : Type 0} (r : Result X E) (P Q R : X → Type 0) → ((x : X) → P x → Q x → R x) → IfOk r P → IfOk r Q → IfOk r R
 ok_both (Ok x) P Q R both first second = both x first second
 ok_both (Err e) P Q R both first second = tt
 
--- what is said of each place holds with one more pushed
+-- a property of each place still holds after one more element is pushed
 pub pushed : {X Y : Type 0} (P : ℕ → Y → X → Type 0) (ys : List Y) (d : X) (xs : List X) (x : X) (count : ℕ) → length xs ≡ count
     → ((k : ℕ) (y : Y) → k < count → slice_get ys k ≡ Some y → P k y (get_or xs k d)) → ((y : Y) → slice_get ys count ≡ Some y → P count y x)
     → (k : ℕ) (y : Y) → k < count + 1 → slice_get ys k ≡ Some y → P k y (get_or (xs ++ x ∷ []) k d)
@@ -39,7 +40,7 @@ had_more ys count had ws h words = record {
 }
 
 module _ (p : PolicyView) (steps : List Step) (ys : List NodeView) where
-  -- of no nodes
+  -- no nodes
   pub joints_none : (takes : List (List Text)) (also : List (List ℕ)) → takes ≡ [] → also ≡ [] → AreJoints p steps ys 0 takes also
   joints_none takes also no_takes no_also = record {
     takes_len = ap length no_takes;
@@ -59,7 +60,7 @@ module _ (p : PolicyView) (steps : List Step) (ys : List NodeView) where
   }
 
   module _ (takes had : List (List Text)) (also : List (List ℕ)) (joints : AreJoints p steps ys (length ys) takes also) (are : AreHad ys (length ys) had) where
-    -- roles and everything have no words
+    -- no word is one by which a role, or everything, can be had
     nobody_had : (j : ℕ) (y : NodeView) (w : Text) → slice_get ys j ≡ Some y → IsNobody y → Contains (get_or had j []) w → ⊥
     nobody_had j (Somebody who) w at is c = elim is [ ]
     nobody_had j (ClusterRoleIn role scope) w at is c = let low = (subst (λ (ws : List Text). Contains ws w) (are.words j (ClusterRoleIn role scope) (slice_get_within ys j (ClusterRoleIn role scope) at) at) c).1 in omega (arith, low)

@@ -14,7 +14,7 @@ use Rattle.rbac_paths.specs.NodeLists.{node_text}
 use Rattle.rbac_paths.specs.Nodes.{NodeView}
 use Rattle.rbac_paths.specs.Paths.{IsBeforeOn, IsFewest, LeadsTo}
 
--- what stands at a place is among them, and what is among them stands at a place
+-- a node at a place is in the list, and each node in the list has a place
 pub among : (ys : List NodeView) (j : ℕ) (y : NodeView) → slice_get ys j ≡ Some y → Contains ys y
 among ys j y at = (j, slice_get_within ys j y at, get_or_from_slice_get ys j y y at)
 
@@ -32,7 +32,7 @@ pub one_or_none : (o : Option Stop) → (o ≡ None) ⊎ ((s : Stop) × (o ≡ S
 one_or_none None = inl refl
 one_or_none (Some s) = inr (s, refl)
 
--- what a search says of each place
+-- what the stops of a search show
 module _ (g : GraphView) (starts : List ℕ) (stops : List (Option Stop)) (found : AreStops g starts stops) where
   pub stop_is : (j : ℕ) (s : Stop) → get_or stops j None ≡ Some s → IsStop g starts j s
   stop_is j s at = elim (cases_lt j (length stops)) [
@@ -46,14 +46,14 @@ module _ (g : GraphView) (starts : List ℕ) (stops : List (Option Stop)) (found
     | inr some ↦ some
   ]
 
--- no printed node is before itself, and of two one alone is before the other
+-- no node is printed before itself, and no two nodes are each printed before the other
 irreflexive : (y : NodeView) → text_cmp (node_text y) (node_text y) ≡ Less → ⊥
 irreflexive y less = let both : Less ≡ Greater = sym less ∙ nat_list_cmp_total.antisymm (node_text y) (node_text y) ∙ ap ordering_reverse less in cc
 
 both_less : (x y : NodeView) → text_cmp (node_text x) (node_text y) ≡ Less → text_cmp (node_text y) (node_text x) ≡ Less → ⊥
 both_less x y less more = irreflexive x (nat_list_cmp_total.trans (node_text x) (node_text y) (node_text x) less more)
 
--- the graph that these nodes make, with these starts
+-- the graph of these nodes by their steps, with the places of the nodes that are starts
 pub record IsGraphBy (GoesTo : NodeView → NodeView → Type 0) (IsStart : NodeView → Type 0) (ys : List NodeView) (g : GraphView) (starts : List ℕ) : Type 0 where
   pub len : length g.takes ≡ length ys
   pub edges : (i j : ℕ) (x y : NodeView) → slice_get ys i ≡ Some x → slice_get ys j ≡ Some y → IsEdge g i j ↔ GoesTo x y
@@ -82,7 +82,7 @@ module _ (GoesTo : NodeView → NodeView → Type 0) (IsStart : NodeView → Typ
       let there = at_place ys y (of.closed m y (among ys r.0 m r.1) goes) in
       (there.0, there.1, (r.0, r.2, (of.edges r.0 there.0 m y r.1 there.1).1 goes))
 
-  -- places are in order of printed nodes, so each node has one place
+  -- places are in the order in which nodes are printed, so each node has one place
   pub is_less : (i j : ℕ) (x y : NodeView) → slice_get ys i ≡ Some x → slice_get ys j ≡ Some y → i < j → text_cmp (node_text x) (node_text y) ≡ Less
   is_less i j x y at there low =
       ap₂ (λ (a : NodeView) (b : NodeView). text_cmp (node_text a) (node_text b)) (sym (get_or_from_slice_get ys i x x at)) (sym (get_or_from_slice_get ys j y x there)) ∙ of.ordered i j x low (slice_get_within ys j y there)
@@ -96,7 +96,7 @@ module _ (GoesTo : NodeView → NodeView → Type 0) (IsStart : NodeView → Typ
     ])
   ]
 
-  -- the fewest edges are the fewest steps
+  -- the least number of edges is the least number of steps
   pub fewest : (n j : ℕ) (y : NodeView) → slice_get ys j ≡ Some y → IsNearest g starts n j → IsFewest GoesTo IsStart n y
   fewest n j y at near = record {
     leads = leads n j y at near.leads;
@@ -109,7 +109,7 @@ module _ (GoesTo : NodeView → NodeView → Type 0) (IsStart : NodeView → Typ
     fewest = λ k low r. few.fewest k low (leads k j y at r);
   }
 
-  -- the least place before is the first node before as printed
+  -- the least place before a node's place is that of the first node before it as printed
   pub before : (n j b : ℕ) (y x : NodeView) → slice_get ys j ≡ Some y → slice_get ys b ≡ Some x → IsLeastBefore g starts (suc n) j b → IsBeforeOn GoesTo IsStart n y x
   before n j b y x at there least = record {
     fewest = fewest n b x there least.0;

@@ -1,4 +1,5 @@
--- Where a node takes over roles, and everything in a namespace: only by writing.
+-- In which scopes a node takes over roles, or everything in a namespace: only by `bind` and
+-- `escalate`.
 use Rattle.std.proofs.Common.{◌≡◌, ◌⊎◌, Bool, false, true, List, [], ◌∷◌, None, Option, Some, Contains, ap, arith, inl, inr, refl, subst, sym}
 use Rattle.rbac_terms.specs.Text.{Text}
 use Rattle.rbac_model.proofs.OwnWords.{any_from}
@@ -19,8 +20,8 @@ use Rattle.rbac_paths.specs.declared.table.Over.TheVariants as over
 use Rattle.rbac_paths.proofs.Closed.{is_kept}
 use Rattle.rbac_paths.proofs.Others.{counts_there, matches_step, over_nobody}
 
--- a row over roles or everything is of a step that writes, or is over everything in the cluster alone:
--- no other one is in the table
+-- a row that takes over roles or everything is a row of `bind` or `escalate`, or takes over
+-- everything in the whole cluster only: the table has no other such row
 abbrev writes_nothing : Step → Bool
 writes_nothing by.Bind = false
 writes_nothing by.Escalate = false
@@ -68,7 +69,8 @@ whole (ClusterRoleIn role scope) namespace own is = elim is [ ]
 whole (OwnRole role) namespace own is = elim is [ ]
 whole (EverythingIn scope) namespace own is = ap (λ (s : Option Text). EverythingIn s) is.2
 
--- who takes over everything in the cluster by writing isn't told of more
+-- if a node takes over everything in the whole cluster by `bind` or `escalate`, these steps leave
+-- out all other roles and everything in a namespace
 untold : (p : PolicyView) (steps : List Step) (x y : NodeView) → IsNobody y → (y ≡ EverythingIn None → ⊥) → HasAll p steps x None → IsUntold p steps x y
 untold p steps x (Somebody who) nobody other all = elim nobody [ ]
 untold p steps x (ClusterRoleIn role None) nobody other all = all
@@ -78,7 +80,8 @@ untold p steps x (EverythingIn None) nobody other all = absurd (other refl)
 untold p steps x (EverythingIn (Some namespace)) nobody other all = all
 
 module _ (p : PolicyView) (steps : List Step) (x : NodeView) (hs : List HoldingView) (decide : DecideOn p steps x hs IsNobody) where
-  -- such a node is taken over by writing, where one of the holdings counts whose rule lets it
+  -- such a node is taken over by `bind` or `escalate`, in a scope where a holding counts whose rule
+  -- matches such a row
   by_writing : (y : NodeView) → IsNobody y → (y ≡ EverythingIn None → ⊥) → (t : TakesOver p steps x y)
       → WritesRoles t.0 × ((h : HoldingView) × Contains hs h × MayTakeBy h.rule t.0 × CountsAt (scope_at y) h)
   unfolding HoldingsTake HoldingTakes

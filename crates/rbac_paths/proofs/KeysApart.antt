@@ -1,4 +1,4 @@
--- Users and groups in order of their keys have keys that differ.
+-- No two users or groups in order of their keys have the same key.
 use Rattle.std.proofs.Common.{◌≡◌, ◌≢◌, ◌∙◌, AllPairs, Equal, Less, List, ap, ap₂, arith, get_or, map, sym, ◌∷◌, []}
 use Rattle.std.proofs.lemmas.List.{get_or-map, length-map}
 use Rattle.rbac_terms.specs.Principals.{Who, who_key}
@@ -7,7 +7,7 @@ use Rattle.rbac_model.proofs.NamePlaces.{equal_from_name}
 use Rattle.rbac_model.specs.Lists.{IsAscendingBy, by_name}
 use Rattle.rbac_model.specs.Unions.{who_texts}
 
--- of two users or groups of which one comes first, the keys differ
+-- if a user or a group comes before another, their keys differ
 apart : (x y : Who) → by_name who_texts x y ≡ Less → who_key x ≢ who_key y
 apart x y less e =
     let tied : by_name who_texts x y ≡ Equal = equal_from_name who_texts x y (ap (λ (t : Text). t ∷ []) e) in

@@ -1,4 +1,4 @@
--- What is in a list of values, and in what order.
+-- The elements of a mapped list, and their order.
 use Rattle.std.proofs.Common.{◌≡◌, ◌∙◌, ◌<◌, ◌⊎◌, ℕ, All, List, [], ◌∷◌, AllPairs, Contains, IsSome, None, Option, Some, ap, arith, false, get_or, inl, inr, length, map, refl, slice_get, subst, suc, true, zero}
 use Rattle.std.specs.Option.{option_map}
 use Rattle.std.proofs.lemmas.List.Elements.{All-map}
@@ -39,7 +39,7 @@ module _ {X Y : Type 0} (f : X → Y) where
       AllPairs-cons R (f x) (map f xs) (All-map (R (f x)) f xs (λ k d within. pairs 0 (suc k) d (omega arith) (omega arith)))
       (pairs_map R xs (λ i j d low within. pairs (suc i) (suc j) d (omega arith) (omega arith)))
 
-  -- what is read at a place
+  -- the element at a place
   pub mapped_at : (xs : List X) (k : ℕ) (x : X) → k < length xs → x ≡ get_or xs k x → slice_get (map f xs) k ≡ Some (f x)
   mapped_at xs k x low is = slice_get-map f xs k ∙ ap (option_map f) (slice_get_read xs (length xs) k x refl low is)
 

@@ -1,4 +1,4 @@
--- What is printed tells which node of a policy it is.
+-- The printed text of a node determines which node of a policy it is.
 use Rattle.std.proofs.Common.{◌≡◌, ◌≢◌, ◌++◌, ◌∷◌, [], ◌∙◌, ℕ, List, Option, Some, AllPairs, Contains, ap, ap₂, arith, cond, get_or, inl, inr, ltb, map, refl, subst, sym}
 use Rattle.std.specs.Prelude.{codes}
 use Rattle.std.proofs.lemmas.Bool.{cases_eq, cases_lt}
@@ -24,7 +24,7 @@ same_fields y z e = field-one (who_or_what y) (who_or_what z) (where_text y) (wh
 same_scope : (s t : Option Text) → choice_and_tab s ≡ choice_and_tab t → s ≡ t
 same_scope s t e = choice_text-one s t (same_from_push (choice_text s) (choice_text t) tab tab e).0
 
--- ---- the first byte tells what kind a node is
+-- ---- the first byte shows the kind of a node
 
 abbrev kind_by : ℕ → ℕ
 kind_by b = cond (ltb 100 b) 0 b
@@ -45,12 +45,12 @@ kind_is (EverythingIn scope) = refl
 same_kind : (y z : NodeView) → node_text y ≡ node_text z → kind y ≡ kind z
 same_kind y z e = kind_is y ∙ ap (λ (t : Text). kind_by (get_or t 0 0)) (same_fields y z e).0 ∙ sym (kind_is z)
 
--- everything in a scope is printed otherwise than any other node
+-- no other node is printed like everything in a scope
 pub everything_told : (s : Option Text) (y : NodeView) → node_text (EverythingIn s) ≡ node_text y → y ≡ EverythingIn s
 everything_told s (EverythingIn t) e = ap EverythingIn (sym (same_scope s t (same_fields (EverythingIn s) (EverythingIn t) e).1))
 everything_told s y e = absurd (omega (arith, same_kind (EverythingIn s) y e))
 
--- ---- users and groups by their keys
+-- ---- a key determines a user or a group
 
 module _ {X : Type 0} (f : X → Who) (xs : List X) (apart : AllPairs (λ a b. who_key (f a) ≢ who_key (f b)) xs) where
   one_by_key : (x y : X) → Contains xs x → Contains xs y → who_key (f x) ≡ who_key (f y) → x ≡ y
@@ -68,7 +68,7 @@ module _ {X : Type 0} (f : X → Who) (xs : List X) (apart : AllPairs (λ a b. w
       let y = contains_map f xs other b in
       sym x.2 ∙ ap f (one_by_key x.0 y.0 x.1 y.1 (ap who_key x.2 ∙ e ∙ sym (ap who_key y.2))) ∙ y.2
 
--- ---- each node is told
+-- ---- the printed text determines each node
 
 module _ (p : PolicyView) (held : IsHeld p.held) (ps : List Who) (tell : (who other : Who) → Contains ps who → Contains ps other → who_key who ≡ who_key other → who ≡ other) where
   one_cluster_role : (r q : ClusterRole) → Contains p.held.cluster_roles r → Contains p.held.cluster_roles q → r.name ≡ q.name → r ≡ q
@@ -77,7 +77,7 @@ module _ (p : PolicyView) (held : IsHeld p.held) (ps : List Who) (tell : (who ot
   one_role : (r q : Role) → Contains p.held.roles r → Contains p.held.roles q → r.namespace ≡ q.namespace → r.name ≡ q.name → r ≡ q
   one_role r q a b e f = one_of_name role_name p.held.roles r q held.roles a b (ap₂ (λ (s : Text) (t : Text). codes "Role" ∷ s ∷ t ∷ []) e f)
 
-  -- a role's name is what follows its namespace
+  -- if two Roles have the same namespace and the same text, they have the same name
   same_name : (s t m n : Text) → s ≡ t → codes "Role/" ++ s ++ codes "/" ++ m ≡ codes "Role/" ++ t ++ codes "/" ++ n → m ≡ n
   same_name s t m n same e =
       let there : codes "Role/" ++ t ++ codes "/" ++ m ≡ codes "Role/" ++ t ++ codes "/" ++ n = subst (λ (w : Text). codes "Role/" ++ w ++ codes "/" ++ m ≡ codes "Role/" ++ t ++ codes "/" ++ n) same e in

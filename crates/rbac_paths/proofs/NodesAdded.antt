@@ -1,4 +1,4 @@
--- Nodes that are put under their texts, some after others.
+-- Nodes that are put under their printed texts, one after another.
 use Rattle.std.proofs.Common.{◌≡◌, ◌⊎◌, ◌↔◌, ◌+◌, ◌<◌, ◌≤◌, ◌++◌, ◌∷◌, [], ◌∙◌, ℕ, Any, Bool, IsSome, List, Option, Some, ap, cond, false, get_or, inl, inr, length, refl, subst, sym, take, true}
 use Rattle.std.specs.BTreeMap.{get}
 use Rattle.std.specs.Ordering.{is_eq}
@@ -74,7 +74,7 @@ module _ (node : Node) (a b : PrintedNodes) where
         (λ apart. inl (sym (put_apart put k apart) ∙ e));
   }
 
--- ---- those of a list, one after another
+-- ---- the nodes of a list, one after another
 
 module _ {X : Type 0} (Is : X → NodeView → Type 0) where
   pub adds_none : (m : PrintedNodes) → AddsNodes (λ y. Any (λ x. Is x y) []) m m

@@ -1,4 +1,5 @@
--- What was put under its text is all nodes, each once, in order of these texts.
+-- The nodes that were put under their printed texts are all nodes, each once, in order of these
+-- texts.
 use Rattle.std.proofs.Common.{◌≡◌, ◌<◌, ◌∙◌, ℕ, AllPairs, Contains, List, None, Some, ap, ap₂, arith, get_or, inl, inr, length, map, refl, slice_get, subst, sym}
 use Rattle.std.specs.BTreeMap.{get, IsOrdered, values}
 use Rattle.std.specs.Ordering.{is_eq}

@@ -1,4 +1,4 @@
--- the paths from somebody are one list
+-- The paths from a principal are one list.
 use Rattle.std.proofs.Common.{◌≡◌, ◌↔◌, ℕ, zero, suc, inl, inr, List, [], ◌∷◌, Contains, get_or, arith, sym, ap, refl, subst, ◌∙◌}
 use Rattle.std.specs.Ordering.{nat_cmp, ordering_reverse}
 use Rattle.std.specs.Cmp.{nat_cmp_is}
@@ -79,7 +79,7 @@ module _ (p : PolicyView) (all others : List Who) (steps : List Step) (same : (w
 
 -- ---- one list
 
--- what is told is named by how many steps there are, and by its node
+-- a listed element has a name: its number of steps, and its node as printed
 module _ {X : Type 0} (count : X → ℕ) (node : X → NodeView) where
   abbrev pub told_name : X → List Text
   told_name x = (count x ∷ []) ∷ node_text (node x) ∷ []
@@ -88,7 +88,7 @@ module _ {X : Type 0} (count : X → ℕ) (node : X → NodeView) where
   told_less x y (inl lt) = let e : Less ≡ nat_cmp (count x) (count y) = nat_cmp_is (count x) (count y) Less lt in rw (sym e) refl
   told_less x y (inr (same, less)) = let e : Equal ≡ nat_cmp (count x) (count y) = nat_cmp_is (count x) (count y) Equal same in rw (sym e, less) refl
 
--- of one node there is one number of steps that are the fewest
+-- the least number of steps to a node is one number
 pub one_count : (R : NodeView → NodeView → Type 0) (S : NodeView → Type 0) (n m : ℕ) (y : NodeView) → IsFewest R S n y → IsFewest R S m y → n ≡ m
 one_count R S n m y a b = elim (cases_order n m) [
   | inl e ↦ e
@@ -111,7 +111,7 @@ module _ (p : PolicyView) (all : List Who) (steps : List Step) (start : NodeView
   ascend : (xs : List PathView) → ArePaths p all steps start xs → IsAscendingBy path_name xs
   ascend xs are i j d lt l = told_less (λ (x : PathView). x.count) (λ (x : PathView). x.node) (get_or xs i d) (get_or xs j d) (are.ordered i j d lt l)
 
-  -- what is reached, but the start, is listed
+  -- each node that the start comes to, except the start, is listed
   listed : (xs : List PathView) → ArePaths p all steps start xs → (n : ℕ) (y : NodeView) → IsFewest R S (suc n) y → (x : PathView) × Contains xs x × (x.node ≡ y) × (x.count ≡ suc n)
   listed xs are n y few =
       let w = are.complete (suc n) y (λ e. few.fewest 0 (omega arith) e) few.leads in
@@ -119,7 +119,7 @@ module _ (p : PolicyView) (all : List Who) (steps : List Step) (start : NodeView
       let is : IsPath p all steps start x = subst (IsPath p all steps start) w.3 (are.each w.0 x w.2) in
       (x, (w.0, w.2, w.3), w.4, one_count R S x.count (suc n) y (subst (IsFewest R S x.count) w.4 is.fewest) few)
 
-  -- nodes that as many steps lead to and that are printed alike are one
+  -- nodes with the same least number of steps and the same printed text are the same
   one_alike : (xs : List PathView) → ArePaths p all steps start xs → (n : ℕ) (y z : NodeView) → IsFewest R S n y → IsFewest R S n z → node_text y ≡ node_text z → y ≡ z
   one_alike xs are zero y z a b e = a.leads ∙ sym b.leads
   one_alike xs are (suc n) y z a b e =

@@ -1,4 +1,4 @@
--- the powers are one list
+-- The powers of a policy are one list.
 use Rattle.std.proofs.Common.{◌≡◌, List, [], ◌∷◌, ◌++◌, ◌∙◌, refl, sym, ap₂}
 use Rattle.rbac_terms.specs.Text.{Text}
 use Rattle.rbac_model.specs.Lists.{IsAscendingBy}
@@ -7,7 +7,7 @@ use Rattle.rbac_model.proofs.OneList.{one_list}
 use Rattle.rbac_paths.specs.Powers.{ArePowersIn, ArePowersOf, PowerView, power_place}
 use Rattle.rbac_paths.specs.declared.steps.Step.{Step}
 
--- the powers of one step are named by who and where
+-- a power of a step has a name: its who and where, as printed
 abbrev power_name : PowerView → List Text
 power_name x = power_place x ∷ []
 

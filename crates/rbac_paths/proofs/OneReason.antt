@@ -1,4 +1,4 @@
--- why a node can is one reason
+-- A node has one reason at most for each aim.
 use Rattle.std.proofs.Common.{◌≡◌, ◌∙◌, ℕ, List, Option, Some, ap, ap₂, sym, subst, refl}
 use Rattle.rbac_terms.specs.Text.{Text}
 use Rattle.rbac_terms.specs.Granting.{Names}

@@ -1,4 +1,4 @@
--- the ways to what is asked for are one list
+-- The ways to a request are one list.
 use Rattle.std.proofs.Common.{◌≡◌, ◌↔◌, ◌∙◌, ◌∷◌, [], ℕ, zero, suc, List, MatchOption, None, Option, Some, Contains, get_or, arith, sym, ap, refl, subst}
 use Rattle.std.specs.Ordering.{ordering_reverse}
 use Rattle.std.specs.declared.cmp.Ordering.{Ordering}
@@ -78,7 +78,7 @@ module _ (p : PolicyView) (all : List Who) (steps : List Step) (asked : AccessVi
   abbrev S : NodeView → Type 0
   S = AllowsAccess p asked
 
-  -- who is taken over by one that is come to is come to
+  -- if steps lead to a node, steps also lead to each node that it takes over
   come_on : (x y : NodeView) → IsComeTo p all steps x → GoesTo p all steps x y → IsComeTo p all steps y
   come_on x y come goes = (suc come.0, (x, come.1, goes))
 
@@ -86,7 +86,7 @@ module _ (p : PolicyView) (all : List Who) (steps : List Step) (asked : AccessVi
   ascend xs are i j d lt l = told_less (λ (x : WayView). x.count) (λ (x : WayView). x.node) (get_or xs i d) (get_or xs j d) (are.ordered i j d lt l)
 
   module _ (xs : List WayView) (are : AreWays p all steps asked xs) where
-    -- what is come to, and steps lead on from, is listed
+    -- a node to which steps lead, and from which steps lead on, is listed
     listed : (n : ℕ) (y : NodeView) → IsComeTo p all steps y → IsFewest R S n y → (x : WayView) × Contains xs x × (x.node ≡ y) × (x.count ≡ n)
     listed n y come few =
         let w = are.complete n y come few.leads in
@@ -94,7 +94,7 @@ module _ (p : PolicyView) (all : List Who) (steps : List Step) (asked : AccessVi
         let is : IsWayOn p all steps asked x = subst (IsWayOn p all steps asked) w.3 (are.each w.0 x w.2) in
         (x, (w.0, w.2, w.3), w.4, one_count R S x.count n y (subst (IsFewest R S x.count) w.4 is.fewest) few)
 
-    -- such nodes that as many steps lead on from and that are printed alike are one
+    -- such nodes with the same least number of steps and the same printed text are the same
     one_alike : (n : ℕ) (y z : NodeView) → IsComeTo p all steps y → IsComeTo p all steps z → IsFewest R S n y → IsFewest R S n z → node_text y ≡ node_text z → y ≡ z
     one_alike n y z come too a b e =
         let v = listed n y come a in
@@ -110,7 +110,7 @@ module _ (p : PolicyView) (all : List Who) (steps : List Step) (asked : AccessVi
     one_next n x y z come a b Greater e =
         absurd (a.first z (nat_list_cmp_total.antisymm (node_text z) (node_text y) ∙ ap ordering_reverse (sym e)) b.fewest b.goes)
 
-    -- two ways from one node that have as many steps
+    -- two ways from the same node with the same number of steps
     module _ (n : ℕ) (y : NodeView) (come : IsComeTo p all steps y) where
       abbrev way : Option NextView → ReasonView → WayView
       way next reason = record { count = n; node = y; next = next; reason = reason }

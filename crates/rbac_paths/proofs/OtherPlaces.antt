@@ -1,4 +1,4 @@
--- The places of roles among nodes, and of everything, by where they are.
+-- The places of roles and everything among nodes, by their scopes.
 use Rattle.std.proofs.Common.{◌≡◌, ◌↔◌, ◌⊎◌, ◌∙◌, ◌<◌, ◌+◌, ◌++◌, ◌∷◌, [], ℕ, List, None, Option, Some, All, Any, Contains, ap, arith, eqb, get_or, inl, inr, length, refl, slice_get, subst, sym}
 use Rattle.std.proofs.Math.ListN.{get_or-eq_default}
 use Rattle.std.specs.List.Retain.{DiffersFromLast, IsFiltered}
@@ -21,7 +21,7 @@ use Rattle.rbac_paths.specs.Tracing.{IsAt}
 use Rattle.rbac_paths.proofs.GraphOf.{pushed}
 use Rattle.rbac_paths.proofs.Mapped.{is_element}
 
--- one more node, and the word for where it is
+-- the words for the scopes of no nodes, and of one more node
 pub scopes_none : (ys : List NodeView) (all : List (List Text)) → all ≡ [] → AreScopeWords ys 0 all
 scopes_none ys all empty = (ap length empty, λ k y low at. absurd (omega (arith, low)))
 
@@ -41,7 +41,7 @@ module _ (ys : List NodeView) (all : List (List Text)) (are : AreScopeWords ys (
     | inr high ↦ absurd (let none = (subst (λ (ws : List Text). Contains ws w) (get_or-eq_default all [] high) c).1 in omega (arith, none))
   ]
 
-  -- a word is listed for a place exactly if it is that of the node there
+  -- a word is listed for a place exactly if it is the word for the scope of the node there
   listed_there : (w : Text) (j : ℕ) → Contains (get_or all j []) w ↔ IsAt (λ y. Contains (scope_words y) w) ys j
   listed_there w j = (
     λ c.
@@ -57,7 +57,7 @@ module _ (ys : List NodeView) (all : List (List Text)) (are : AreScopeWords ys (
     by_scope = λ w j. (λ h. (listed_there w j).0 ((by w j).0 h), λ i. (by w j).1 ((listed_there w j).1 i));
   }
 
--- what a sort and then a dedup leave
+-- a sort and a dedup leave the same places
 pub kept_once : (all sorted once : List ℕ) → IsPermutation all sorted → IsFiltered (DiffersFromLast eqb) [] sorted once → (j : ℕ) → Contains once j ↔ Contains all j
 kept_once all sorted once moved kept j =
     let e = dedup_is eqb sorted once kept in (
@@ -65,7 +65,7 @@ kept_once all sorted once moved kept j =
       λ c. rw e (Contains-dedup_nat sorted j (Contains-permutation all sorted j moved c)),
     )
 
--- where a role is, or everything, there is a word for it
+-- the scope of a role, or of everything, has a word
 scope_word : (y : NodeView) → IsNobody y → Contains (scope_words y) (scope_namespace (scope_at y))
 scope_word (Somebody who) nobody = absurd nobody
 scope_word (ClusterRoleIn role scope) nobody = is_element (scope_namespace scope) (scope_namespace scope) refl
@@ -82,7 +82,7 @@ module _ (ys : List NodeView) (o : OthersView) (are : AreAmongOthers ys o) (few 
   all_others : (places : List ℕ) → ((j : ℕ) → Contains places j → IsAt IsNobody ys j) → All (IsAt IsNobody ys) places
   all_others places each k d low = each (get_or places k d) (Contains-get_or places k d low)
 
-  -- all of them, where some scoped holding counts in the whole cluster
+  -- all places, if a scoped holding counts in the whole cluster
   pub asked_all : (places : List ℕ) → ((j : ℕ) → Contains places j ↔ Contains o.places j) → AreAskedPlaces ys few scoped places
   asked_all places same = record {
     others = all_others places (λ j c. (are.places j).0 ((same j).0 c));
@@ -90,7 +90,7 @@ module _ (ys : List NodeView) (o : OthersView) (are : AreAmongOthers ys o) (few 
     in_cluster = λ j y at nobody none any. (same j).1 ((are.places j).1 (y, at, nobody));
   }
 
-  -- those in the scopes of these, where no scoped holding counts in the whole cluster
+  -- the places in the scopes of the scoped holdings, if none of these counts in the whole cluster
   abbrev pub IsInScope : ℕ → Type 0
   IsInScope j = Any (λ h. HasUnder o.by_scope (scope_namespace h.home) j) scoped
 

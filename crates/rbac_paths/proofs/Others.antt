@@ -1,4 +1,4 @@
--- The roles that a node takes over, and everything, one after another.
+-- The other nodes that a node takes over, roles and everything, one after another.
 use Rattle.std.proofs.Common.{◌≡◌, ◌⊎◌, ◌↔◌, ◌∙◌, ◌<◌, ◌+◌, ◌++◌, ℕ, Bor, List, [], ◌∷◌, Option, None, Some, IsSome, MatchOption, Any, Contains, false, refl, true, ap, arith, get_or, inl, inr, length, slice_get, subst, sym, take}
 use Rattle.std.proofs.lemmas.List.{take_more}
 use Rattle.std.proofs.lemmas.List.Elements.{Contains-append_left, Contains-push, Contains-push_cases}
@@ -23,7 +23,8 @@ use Rattle.rbac_paths.specs.declared.table.Counts.TheVariants as counted
 use Rattle.rbac_paths.specs.declared.table.Over.{Over}
 use Rattle.rbac_paths.specs.declared.table.Over.TheVariants as over
 
--- a row that takes over a role or everything is over roles or everything, and the rule matches it
+-- a row by which a rule takes over a role or everything is a row for roles or everything, and the
+-- rule matches it
 pub over_nobody : (o : Over) (counts : Counts) (y : NodeView) (namespace own : Text) → IsNobody y → IsOver o counts y namespace own → IsOverNobody o
 over_nobody over.Users counts (Somebody who) namespace own nobody is = nobody
 over_nobody over.Users counts (ClusterRoleIn role scope) namespace own nobody is = is
@@ -56,7 +57,7 @@ unfolding MayTakeBy
 matches_step h y step nobody a =
     any_from (λ row. (row.step ≡ step) × MatchesOverOthers h.rule row) table a.1 (a.0, a.2, a.3) (a.4.0, matches h y a.1 nobody a.4.1)
 
--- a rule takes over a role, or everything, only where it counts
+-- a rule takes over a role, or everything, only in a scope where the rule counts
 at_scope : (home : Option Text) (counts : Counts) (namespace : Text) (scope : Option Text) (group text name : Text) → Live home (asked_in counts namespace) (Resource group text name) → namespace ≡ scope_namespace scope
     → (home ≡ None) ⊎ (home ≡ scope)
 at_scope None counts namespace scope group text name live e = inl refl
@@ -91,7 +92,7 @@ counts_there h y step nobody a =
     let w = a.4.1 in
     at_scope h.home row.counts w.namespace (scope_at y) row.group w.text w.name w.live (over_scope row.over row.counts y w.namespace w.own nobody w.over)
 
--- everything in the whole cluster, or another node
+-- a node is everything in the whole cluster, or another node
 whole_or_other : (y : NodeView) → (y ≡ EverythingIn None) ⊎ (y ≡ EverythingIn None → ⊥)
 whole_or_other (Somebody who) = inr (λ e. cc)
 whole_or_other (ClusterRoleIn role scope) = inr (λ e. cc)
@@ -99,14 +100,14 @@ whole_or_other (OwnRole role) = inr (λ e. cc)
 whole_or_other (EverythingIn None) = inl refl
 whole_or_other (EverythingIn (Some namespace)) = inr (λ e. cc)
 
--- it is taken over only by a holding that counts there
+-- everything in the whole cluster is taken over only by a holding that counts there
 counts_whole : (p : PolicyView) (steps : List Step) (x : NodeView) (few : List HoldingView) → DecideOn p steps x few IsNobody → (y : NodeView) → IsNobody y → y ≡ EverythingIn None → TakesOver p steps x y → Any (CountsAt None) few
 unfolding HoldingsTake HoldingTakes
 counts_whole p steps x few decide y nobody whole t =
     let a = (decide t.0 y t.1.among nobody).1 t.1.can in
     any_from (CountsAt None) few a.1 (a.0, a.2, a.3) (subst (λ (z : NodeView). CountsAt (scope_at z) a.1) whole (counts_there a.1 y t.0 nobody a.4))
 
--- those of one more holding
+-- one more holding, which takes over other nodes or not
 module _ (steps : List Step) (hs : List HoldingView) (i : ℕ) (h : HoldingView) (low : i < length hs) (at : h ≡ get_or hs i h) (few : List HoldingView) (is : AreOverOthers steps (take i hs) few) where
   one_more : take (i + 1) hs ≡ take i hs ++ h ∷ []
   one_more = take_more hs i h low ∙ ap (λ (z : HoldingView). take i hs ++ z ∷ []) (sym at)
@@ -132,7 +133,8 @@ module _ (steps : List Step) (hs : List HoldingView) (i : ℕ) (h : HoldingView)
     ],
   ))
 
--- what the grant with that number gives, if its rule matches a row over roles or everything
+-- the grant with number n gives this holding, whose rule matches a row that takes over roles or
+-- everything
 abbrev pub GivesOther : PolicyView → List Step → ℕ → HoldingView → Type 0
 GivesOther p steps n h = (g : GrantView) × (slice_get p.grants n ≡ Some g) × (grant_holding g ≡ h) × SomeMayTake steps h
 
@@ -151,7 +153,7 @@ given_over p steps numbers hs give few are h = (
   λ w. (let v = (give h).0 w.0 in (are h).1 (any_from (λ n. GivesOther p steps n h) numbers v.0 v.1 (v.2.0, v.2.1, v.2.2, w.1))),
 )
 
--- of a node's holdings those decide about roles and everything whose rules match a row over such
+-- about roles and everything, the holdings whose rules match a row for these decide
 pub few_decide : (p : PolicyView) (steps : List Step) (x : NodeView) (hs : List HoldingView) → DecideOn p steps x hs IsAnyNode → (few : List HoldingView)
     → AreOverOthers steps hs few
     → DecideOn p steps x few IsNobody
@@ -162,13 +164,13 @@ few_decide p steps x hs decide few is step y among nobody = (
       any_from (λ h. RuleTakes step h.home h.rule y) few w.1 ((is w.1).1 ((w.0, w.2, w.3), any_from (MayTakeBy w.1.rule) steps step among (matches_step w.1 y step nobody w.4))) w.4),
 )
 
--- what decides about roles and everything decides about one of them
+-- holdings that decide about all roles and everything also decide about one of these nodes
 pub about_node : (p : PolicyView) (steps : List Step) (x : NodeView) (hs : List HoldingView) → DecideOn p steps x hs IsNobody → (y : NodeView) → IsNobody y
     → DecideOn p steps x hs (IsAboutNode y)
 about_node p steps x hs decide y nobody step z among (inl same) = decide step z among (subst IsNobody (sym same) nobody)
 about_node p steps x hs decide y nobody step z among (inr is) = decide step z among is
 
--- a node is taken over exactly if that is told by some step
+-- a node is taken over exactly if there is a first step by which it is
 pub told_some : (p : PolicyView) (steps : List Step) (x y : NodeView) (o : Option (Bor Step)) → MatchOption o (TakesOver p steps x y → ⊥) (λ s. IsFirstTold p steps x y s.now) → IsSome o ↔ TakesOver p steps x y
 told_some p steps x y None none = (λ is. absurd (let both : false ≡ true = is in cc), λ t. absurd (none t))
 told_some p steps x y (Some step) first = (λ is. (step.now, first.1.holds), λ t. refl)
@@ -178,7 +180,7 @@ no_items [] e = refl
 no_items (h ∷ hs) e = absurd (omega (arith, e))
 
 module _ (p : PolicyView) (steps : List Step) (x : NodeView) (ys : List NodeView) where
-  -- a node none of whose rules matches such a row takes over none
+  -- without such holdings, a node takes over no role, and everything nowhere
   pub no_others : DecideOn p steps x [] IsNobody → (js : List ℕ) → js ≡ [] → AreOthers p steps x ys js
   unfolding HoldingsTake
   no_others decide js empty j = (
@@ -186,7 +188,7 @@ module _ (p : PolicyView) (steps : List Step) (x : NodeView) (ys : List NodeView
     λ o. absurd (let t = o.3 in let a = (decide t.0 o.0 t.1.among o.2).1 t.1.can in let low = a.2 in omega (arith, low)),
   )
 
-  -- those at some places
+  -- the other nodes at some places that are taken over
   pub others_none : (js : List ℕ) → js ≡ [] → AreOthersAt p steps x ys [] js
   others_none js empty j = (
     λ c. absurd (let low = (subst (λ (ks : List ℕ). Contains ks j) empty c).1 in omega (arith, low)),
@@ -218,7 +220,7 @@ module _ (p : PolicyView) (steps : List Step) (x : NodeView) (ys : List NodeView
       ],
     )
 
-  -- a node takes over others only at places that are asked
+  -- a node takes over other nodes only at the places that are checked
   pub others_all : (few scoped : List HoldingView) → DecideOn p steps x few IsNobody → AreScoped p steps x scoped → (places js : List ℕ) → AreAskedPlaces ys few scoped places
       → AreOthersAt p steps x ys places js → AreOthers p steps x ys js
   others_all few scoped decide in_scopes places js asked of j = (

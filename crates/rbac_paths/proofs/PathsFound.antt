@@ -1,4 +1,4 @@
--- The paths that a search of the graph of nodes finds are those from somebody.
+-- A search of the graph of nodes finds exactly the paths from a principal.
 use Rattle.std.proofs.Common.{◌≡◌, ◌≢◌, ◌↔◌, ◌∙◌, ◌+◌, ◌<◌, ℕ, suc, List, Option, None, Some, IsSome, All, Any, Contains, ap, arith, get_or, inl, inr, length, refl, slice_get, subst, sym}
 use Rattle.std.specs.Ordering.{is_lt, ordering_reverse}
 use Rattle.std.specs.List.Sorted.{IsSorted, IsStrictlySortedBy}
@@ -23,7 +23,7 @@ use Rattle.rbac_paths.specs.declared.steps.Step.{Step}
 use Rattle.rbac_paths.proofs.Closed.{HasOwnRole, cluster_role_bound, role_bound}
 use Rattle.rbac_paths.proofs.GraphWays.{IsGraphBy, among, at_low, before, fewest, leads, one_less, reached, stop_is, stop_there, within}
 
--- names in order, each once, are in order
+-- names in strict order are in order
 pub in_order : (names : List Text) → IsStrictlySortedBy text_cmp names → IsSorted text_cmp names
 in_order names up k d low high =
     let less = Less-from_sorted text_cmp names k (k + 1) d up (omega arith) high in

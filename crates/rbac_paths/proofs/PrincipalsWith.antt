@@ -1,4 +1,4 @@
--- Users and groups with the one that is asked about, one after another.
+-- Users and groups with the principal asked about, one after another.
 use Rattle.std.proofs.Common.{◌≡◌, ◌≢◌, ◌↔◌, ◌+◌, ◌<◌, ◌++◌, ◌∷◌, [], ◌∙◌, ℕ, AllPairs, Contains, Equal, Less, List, ap, ap₂, arith, get_or, inl, inr, length, map, subst, sym, take}
 use Rattle.std.proofs.lemmas.List.{get_or-take, get_or_default, length-take, map_push}
 use Rattle.std.proofs.lemmas.List.Elements.{Contains-append_cases, Contains-append_left, Contains-append_right}
@@ -12,7 +12,7 @@ use Rattle.rbac_model.specs.Unions.{who_texts}
 use Rattle.rbac_paths.specs.Principals.{IsOneWith}
 use Rattle.rbac_paths.proofs.Mapped.{is_element, map_contains, one_element}
 
--- one that comes before another in order of keys has another key
+-- in order of keys, an earlier user or group has another key
 earlier_differs : (ps : List Who) (i : ℕ) (who other : Who) → IsAscendingBy who_texts ps → i < length ps → other ≡ get_or ps i other → Contains (take i ps) who → who_key who ≢ who_key other
 earlier_differs ps i who other up within there before e =
     let low : before.0 < i = omega (arith, before.1, length-take i ps) in
@@ -22,7 +22,7 @@ earlier_differs ps i who other up within there before e =
     let both : Less ≡ Equal = sym less ∙ tied in cc
 
 module _ {R : Type 0} (f : R → Who) (asked : Who) (ps : List Who) where
-  -- those that were passed, with the one asked about
+  -- the users and groups so far, with the principal asked about
   pub record IsWith (passed : List Who) (xs : List R) : Type 0 where
     pub exact : (who : Who) → Contains (map f xs) who ↔ IsOneWith passed asked who
     pub apart : IsAscendingBy who_texts ps → AllPairs (λ a b. who_key (f a) ≢ who_key (f b)) xs
@@ -40,7 +40,7 @@ module _ {R : Type 0} (f : R → Who) (asked : Who) (ps : List Who) where
   })
 
   module _ (i : ℕ) (who : Who) (within : i < length ps) (there : who ≡ get_or ps i who) (xs : List R) (are : IsWith (take i ps) xs) where
-    -- one with the key of the one asked about
+    -- a user or a group with the same key as the principal asked about is left out
     pub with_same : who_key who ≡ who_key asked → IsWith (take (i + 1) ps) xs
     with_same same = subst (λ (passed : List Who). IsWith passed xs) (sym (take_read ps i who within there)) (record {
       exact = λ x. (
@@ -63,7 +63,7 @@ module _ {R : Type 0} (f : R → Who) (asked : Who) (ps : List Who) where
     differs up other x (inl is) e = other (sym e ∙ ap who_key is)
     differs up other x (inr before) e = earlier_differs ps i x who up within there before.0 e
 
-    -- one with another key
+    -- a user or a group with another key is added
     pub with_more : (x : R) (ys : List R) → ys ≡ xs ++ x ∷ [] → f x ≡ who → who_key who ≢ who_key asked → IsWith (take (i + 1) ps) ys
     with_more x ys made is other = subst (λ (zs : List R). IsWith (take (i + 1) ps) zs) (sym made) (subst (λ (passed : List Who). IsWith passed (xs ++ x ∷ [])) (sym (take_read ps i who within there)) (record {
       exact = λ z. subst (λ (zs : List Who). Contains zs z ↔ IsOneWith (take i ps ++ who ∷ []) asked z) (sym (map_push f xs x)) (

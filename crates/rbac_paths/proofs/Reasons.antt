@@ -1,4 +1,5 @@
--- Why a node can: somebody by their first grant, and a role by its first rule.
+-- Why a node attains an aim: a user or a group by its first grant that serves it, a role by its
+-- first rule.
 use Rattle.std.proofs.Common.{◌≡◌, ◌↔◌, ◌<◌, ◌≤◌, ◌∙◌, ◌+◌, ◌++◌, ◌∷◌, Bor, get_or, map, ℕ, zero, suc, List, [], Option, Some, Any, ap, append-nil, arith, inl, inr, ◌⊎◌, length, option_map, refl, slice_get, subst, sym}
 use Rattle.std.specs.List.{flat_map}
 use Rattle.std.proofs.lemmas.Bool.{cases_lt}
@@ -25,7 +26,7 @@ use Rattle.rbac_paths.specs.Told.{AreSourceRoles}
 use Rattle.rbac_paths.proofs.AllowedBy.{allow_by}
 use Rattle.rbac_paths.proofs.ByRules.{rule_takes}
 
--- ---- what a node can, some rule that it has lets it
+-- ---- if a node attains an aim, one of its rules serves the aim
 
 pub served : (p : PolicyView) → IsPolicy p → (x : NodeView) (aim : AimView) → Attains p x aim → (h : HoldingView) × IsHolding p x h × Serves aim h.home h.rule
 unfolding Serves
@@ -36,7 +37,7 @@ served p ok x (ToBeAllowed asked) allowed =
     let w = (allow_by p ok x asked.namespace asked.verb asked.target).0 allowed in
     (w.0, w.1, (w.2, w.3))
 
--- what it is allowed, some of exactly its rules allows
+-- a node allows a request exactly if one of its holdings does
 pub allowed_by : (p : PolicyView) → IsPolicy p → (x : NodeView) (hs : List HoldingView) → AreHoldings p x hs → (asked : AccessView)
     → Any (λ h. Serves (ToBeAllowed asked) h.home h.rule) hs ↔ AllowsAccess p asked x
 unfolding Serves
@@ -91,7 +92,7 @@ module _ (p : PolicyView) (aim : AimView) (who : Who) where
     | inr high ↦ none n high (g, here, serves.0)
   ]
 
-  -- somebody can't if no grant lets them
+  -- a principal doesn't attain the aim if no grant serves it
   pub somebody_none : IsPolicy p → ((count : ℕ) → NoneBefore p aim who count) → ¬ Attains p (Somebody who) aim
   somebody_none ok none c =
       let w = served p ok (Somebody who) aim c in
@@ -116,7 +117,8 @@ module _ {X : Type 0} (P : X → Type 0) where
   in_rest : (x : X) (xs : List X) (n : ℕ) (r : X) → IsFirstAt P (x ∷ xs) (suc n) r → IsFirstAt P xs n r
   in_rest x xs n r f = record { here = f.here; holds = f.holds; none_before = λ k y low at q. f.none_before (suc k) y (omega (arith, low)) at q }
 
-  -- the first of one list is the first of both, or behind those of which none has the property
+  -- the first element of a list with the property is also the first of two joined lists, if the
+  -- list is the front one, or if the front one has no such element
   first_ahead : (xs ys : List X) (n : ℕ) (r : X) → IsFirstAt P xs n r → IsFirstAt P (xs ++ ys) n r
   first_ahead [] ys n r f = absurd (let low = slice_get_within [] n r f.here in omega (arith, low))
   first_ahead (x ∷ xs) ys zero r f = record { here = f.here; holds = f.holds; none_before = λ k y low at q. absurd (omega (arith, low)) }
@@ -175,7 +177,7 @@ module _ (aim : AimView) (home : Option Text) where
   abbrev pub rules_of_roles : List ClusterRole → List SourcedRule
   rules_of_roles ss = flat_map (λ s. written_from (InClusterRole s) 0 s.rules) ss
 
-  -- none of the first roles has such a rule
+  -- none of the first `count` roles has such a rule
   abbrev pub NoneOf : List ClusterRole → ℕ → Type 0
   NoneOf ss count = (k : ℕ) (s : ClusterRole) → k < count → slice_get ss k ≡ Some s → Any Lets s.rules → ⊥
 
@@ -215,7 +217,7 @@ module _ (aim : AimView) (home : Option Text) where
   ]
 
   module _ (h : Held) where
-    -- the rules of these roles are those of the cluster role
+    -- the rules of its source roles are the rules of the cluster role
     sources_rules : (role : ClusterRole) (ss : List ClusterRole) → AreSourceRoles h role ss → AreRulesOf h (InClusterRole role) (rules_of_roles ss)
     sources_rules role ss (inl (plain, own)) =
         inl (plain, ap (λ (xs : List ClusterRole). rules_of_roles xs) own ∙ append-nil (written_from (InClusterRole role) 0 role.rules))
@@ -231,9 +233,9 @@ module _ (aim : AimView) (home : Option Text) where
     own_role_rule role n rule f =
         (written_from (InRole role) 0 role.rules, refl, (n, record { source = InRole role; rule = rule; place = n }, written_at (InRole role) role.rules n rule f, refl, refl))
 
--- a role can't if none of its rules lets it
+-- a role doesn't attain the aim if none of its rules serves it
 module _ (p : PolicyView) (ok : IsPolicy p) (aim : AimView) where
-  -- a rule that a role has is among these, if they are its rules
+  -- if the role has a rule that serves the aim, one of its rules does
   let_by : (role : Source) (home : Option Text) (rules : List SourcedRule) → AreRulesOf p.held role rules → (h : HoldingView) → home ≡ h.home → HasRoleRule p.held role h.rule → Serves aim h.home h.rule
       → Any (λ r. Serves aim home r.rule) rules
   let_by role home rules are h there has serves =
@@ -257,7 +259,7 @@ module _ (p : PolicyView) (ok : IsPolicy p) (aim : AimView) where
 -- ---- one rule after the other
 
 module _ (aim : AimView) (home : Option Text) (rules : List Rule) where
-  -- none of the first rules does
+  -- none of the first `count` rules serves the aim
   abbrev pub NoneOfRules : ℕ → Type 0
   NoneOfRules count = (k : ℕ) (r : Rule) → k < count → slice_get rules k ≡ Some r → Serves aim home r → ⊥
 
@@ -273,7 +275,7 @@ module _ (aim : AimView) (home : Option Text) (rules : List Rule) where
   none_of_rules count end none a =
       none a.0 a.1 (omega (arith, a.2, end)) (slice_get-get_or rules a.0 a.1 a.2 ∙ ap (λ (r : Rule). Some r) a.3) a.4
 
--- what a list of roles has at a place
+-- the role at a place of a list
 pub role_there : (items : List (Bor ClusterRole)) (at : ℕ) (item : Bor ClusterRole) → at < length items → item ≡ get_or items at item → slice_get (map (λ s. s.now) items) at ≡ Some item.now
 role_there items at item low is =
     let there : slice_get items at ≡ Some item = slice_get-get_or items at item low ∙ ap (λ (s : Bor ClusterRole). Some s) (sym is) in

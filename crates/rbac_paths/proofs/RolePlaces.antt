@@ -1,4 +1,4 @@
--- The place of a cluster role that is among others.
+-- The place of a cluster role in a list that contains it.
 use Rattle.std.proofs.Common.{◌≡◌, ◌∙◌, ℕ, List, Result, Ok, Err, Contains, ap, get_or, length, refl}
 use Rattle.std.specs.Prelude.{IsSomeAnd, Some, slice_get}
 use Rattle.std.specs.Result.{result_ok}

@@ -1,4 +1,4 @@
--- What a role has are the rules that it is written with, or that it gathers, where it is bound.
+-- A role has the rules that are written in it, or that it gathers, where it is bound.
 use Rattle.std.proofs.Common.{◌≡◌, ◌∙◌, ◌↔◌, ◌+◌, ◌++◌, ◌∷◌, [], ℕ, zero, suc, List, Option, Some, Any, Contains, ap, ap₂, append-nil, arith, inl, inr, map, refl, subst, sym}
 use Rattle.std.specs.List.{flat_map}
 use Rattle.std.proofs.lemmas.List.{map-append}
@@ -12,7 +12,7 @@ use Rattle.rbac_paths.specs.Having.{AreHoldings, HasRoleRule, HoldingView}
 use Rattle.rbac_paths.specs.Nodes.{ClusterRoleIn, OwnRole}
 use Rattle.rbac_paths.specs.Told.{AreSourceRoles, holdings_at}
 
--- the rules of these roles, each where it counts
+-- the holdings of the rules of these roles, which count in `home`
 abbrev pub holdings_of : Option Text → List ClusterRole → List HoldingView
 holdings_of home ss = flat_map (λ s. holdings_at home s.rules) ss
 
@@ -40,7 +40,7 @@ module _ (home : Option Text) where
   found (r ∷ rs) h at (zero, x, l, e, is) = (0, omega arith, ap₂ (λ (o : Option Text) (rule : Rule). record { home = o; rule = rule }) at (ap (λ (y : SourcedRule). y.rule) e ∙ is))
   found (r ∷ rs) h at (suc k, x, l, e, is) = let w = found rs h at (k, x, omega arith, e, is) in (suc w.0, omega (arith, w.1), w.2)
 
-  -- the rules of a role, where they count
+  -- the holdings of a role that is bound in `home`
   module _ (held : Held) (role : Source) (rules : List SourcedRule) (are : AreRulesOf held role rules) (hs : List HoldingView) (is : hs ≡ map held_rule rules) (h : HoldingView) where
     role_has : Contains hs h ↔ ((home ≡ h.home) × HasRoleRule held role h.rule)
     role_has = (
@@ -48,13 +48,13 @@ module _ (home : Option Text) where
       λ w. subst (λ (xs : List HoldingView). Contains xs h) (sym is) (found rules h w.0 (subst (λ (rs : List SourcedRule). Any (λ r. r.rule ≡ h.rule) rs) (one_rules held role w.1.0 rules w.1.1 are) w.1.2)),
     )
 
--- of a role of a namespace
+-- the holdings of a Role
 pub own_has : (p : PolicyView) (role : Role) (hs : List HoldingView) → hs ≡ holdings_at (Some role.namespace) role.rules → AreHoldings p (OwnRole role) hs
 own_has p role hs is h =
     let rules = written_from (InRole role) 0 role.rules in
     role_has (Some role.namespace) p.held (InRole role) rules refl hs (is ∙ sym (written (Some role.namespace) (InRole role) 0 role.rules)) h
 
--- of a cluster role
+-- the holdings of a cluster role
 pub cluster_role_has : (p : PolicyView) (role : ClusterRole) (home : Option Text) (ss : List ClusterRole) → AreSourceRoles p.held role ss → (hs : List HoldingView) → hs ≡ holdings_of home ss → AreHoldings p (ClusterRoleIn role home) hs
 cluster_role_has p role home ss (inl (plain, own)) hs is h =
     let rules = written_from (InClusterRole role) 0 role.rules in

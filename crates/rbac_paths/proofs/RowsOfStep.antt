@@ -1,4 +1,4 @@
--- What rows of a step say of holdings.
+-- What holdings take over by the rows of a step.
 use Rattle.std.proofs.Common.{◌≡◌, List, Any}
 use Rattle.rbac_model.proofs.OwnWords.{any_from}
 use Rattle.rbac_paths.specs.Having.{HoldingView}
@@ -9,7 +9,7 @@ use Rattle.rbac_paths.specs.Taking.{RowTakes}
 use Rattle.rbac_paths.specs.Told.{HoldingTakes, HoldingsTake}
 use Rattle.rbac_paths.specs.declared.steps.Step.{Step}
 
--- what rows of a step say of a holding is what the table says
+-- a holding takes over a node by the rows of a step exactly if it does by the table
 module _ (step : Step) (rows : List StepRowView) (of : AreOfStep step table rows) (y : NodeView) where
   pub by_rows : (h : HoldingView) → Any (λ row. RowTakes row h.home h.rule y) rows → HoldingTakes step h y
   unfolding HoldingTakes
@@ -19,7 +19,7 @@ module _ (step : Step) (rows : List StepRowView) (of : AreOfStep step table rows
   unfolding HoldingTakes
   in_rows h a = any_from (λ row. RowTakes row h.home h.rule y) rows a.1 ((of a.1).1 ((a.0, a.2, a.3), a.4.0)) a.4.1
 
-  -- the same of some of these holdings, row by row
+  -- one of these holdings takes over the node by one of the rows exactly if one does by the step
   pub some_by_rows : (hs : List HoldingView) → Any (λ row. Any (λ h. RowTakes row h.home h.rule y) hs) rows → HoldingsTake step hs y
   unfolding HoldingsTake
   some_by_rows hs a = (a.4.0, a.4.1, a.4.2, a.4.3, by_rows a.4.1 (any_from (λ row. RowTakes row a.4.1.home a.4.1.rule y) rows a.1 (a.0, a.2, a.3) a.4.4))

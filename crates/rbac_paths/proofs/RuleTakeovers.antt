@@ -1,4 +1,4 @@
--- What the rules of roles take over, one after another.
+-- What the rules of roles take over, one rule after another.
 use Rattle.std.proofs.Common.{◌≡◌, ◌∙◌, ◌<◌, ◌+◌, ◌++◌, ◌∷◌, [], ℕ, List, Option, None, Some, ap, arith, get_or, length, refl, slice_get}
 use Rattle.std.specs.Prelude.{option_and_then}
 use Rattle.std.specs.Option.{option_map}
@@ -15,7 +15,7 @@ use Rattle.rbac_paths.specs.Takeovers.{AreTakeoversOfEach, HaveTakeovers, Takeov
 use Rattle.rbac_paths.specs.declared.steps.Step.{Step}
 use Rattle.rbac_paths.proofs.GraphOf.{pushed}
 
--- of the first of these, as many as that: what is said of each
+-- for each of the first `count` elements of ys, the element at its place has the property
 pub record AreEach (X Y : Type 0) (P : Y → X → Type 0) (ys : List Y) (d : X) (count : ℕ) (xs : List X) : Type 0 where
   pub len : length xs ≡ count
   pub each : (k : ℕ) (y : Y) → k < count → slice_get ys k ≡ Some y → P y (get_or xs k d)
@@ -49,7 +49,7 @@ in_cluster_role : (o : Option ClusterRole) (i : ℕ) (r : SourcedRule) → optio
 in_cluster_role None i r e = cc
 in_cluster_role (Some role) i r e = (role, refl, rule_there (InClusterRole role) i (slice_get role.rules i) r e)
 
--- what each role's rules take over is what all rules do
+-- lists for all Roles and all cluster roles are lists for all rules
 pub all_have : (h : Held) (steps : List Step) (m : TakeoversView) → ((at : ℕ) (role : Role) → slice_get h.roles at ≡ Some role → AreTakeoversOfEach steps role.rules (get_or m.roles at []))
     → ((at : ℕ) (role : ClusterRole) → slice_get h.cluster_roles at ≡ Some role → AreTakeoversOfEach steps role.rules (get_or m.cluster_roles at [])) → HaveTakeovers h steps m
 all_have h steps m roles cluster_roles (RoleAt at) i r here =

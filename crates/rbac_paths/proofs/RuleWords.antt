@@ -1,4 +1,4 @@
--- The words that a rule takes are those of its names, or the one for any.
+-- A rule takes the words for its object names, or the word for any name.
 use Rattle.std.proofs.Common.{◌≡◌, ◌≢◌, ◌↔◌, List, Option, Some, None, Any, Contains, arith, refl, subst, sym}
 use Rattle.rbac_terms.specs.Text.{Text}
 use Rattle.rbac_terms.specs.declared.matching.Rule.{Rule}

@@ -1,4 +1,4 @@
--- The scopes, binding by binding, and what is there of them.
+-- The scopes of a policy, binding by binding, and the nodes in each scope.
 use Rattle.std.proofs.Common.{◌≡◌, ◌≢◌, ◌⊎◌, ◌↔◌, ◌++◌, ◌∷◌, [], ◌∙◌, Any, Bor, Contains, IsSome, List, None, Option, Some, ap, arith, false, inl, inr, map, refl, subst, sym, true}
 use Rattle.std.specs.BTreeMap.{get}
 use Rattle.std.specs.Option.{option_copied, option_eq}
@@ -21,7 +21,7 @@ use Rattle.rbac_paths.proofs.Mapped.{contains_map, is_element, map_contains, one
 use Rattle.rbac_paths.proofs.NodeWords.{everything_told}
 use Rattle.rbac_paths.proofs.NodesAdded.{adds_nothing, adds_same}
 
--- exactly the whole cluster and the namespaces of these bindings, that of the last one among them
+-- exactly the whole cluster and the namespaces of these bindings, with the last scope among them
 pub record AreScopesOf (bs : List Binding) (ss : List (Option Text)) (last : Option Text) : Type 0 where
   pub last_is : Contains ss last
   pub exact : (s : Option Text) → Contains ss s ↔ ((s ≡ None) ⊎ Any (λ b. filled_namespace b.namespace ≡ s) bs)
@@ -39,7 +39,7 @@ scopes_none = record {
 }
 
 module _ (bs : List Binding) (b : Binding) (ss : List (Option Text)) (last : Option Text) (are : AreScopesOf bs ss last) where
-  -- a binding where the one before is
+  -- a binding in the same scope as the one before
   pub scopes_same : filled_namespace b.namespace ≡ last → AreScopesOf (bs ++ b ∷ []) ss last
   scopes_same same = record {
     last_is = are.last_is;
@@ -58,7 +58,7 @@ module _ (bs : List Binding) (b : Binding) (ss : List (Option Text)) (last : Opt
     ));
   }
 
-  -- one elsewhere
+  -- a binding in another scope
   pub scopes_more : (s : Option Text) → filled_namespace b.namespace ≡ s → AreScopesOf (bs ++ b ∷ []) (ss ++ s ∷ []) s
   scopes_more new is = record {
     last_is = Contains-append_right ss (new ∷ []) new (is_element new new refl);
@@ -80,7 +80,7 @@ module _ (bs : List Binding) (b : Binding) (ss : List (Option Text)) (last : Opt
     ));
   }
 
--- a namespace that isn't empty stands as it is
+-- a namespace that isn't empty is kept
 filled : (o : Option Text) (namespace : Text) → (filled_namespace o ≡ Some namespace) ↔ ((o ≡ Some namespace) × (namespace ≢ []))
 filled None namespace = (
   λ e. absurd (let both : None ≡ Some namespace = e in cc),
@@ -95,7 +95,7 @@ filled (Some (byte ∷ rest)) namespace = (
   λ is. is.0,
 )
 
--- all bindings have all scopes
+-- the scopes of all bindings are all scopes
 is_scope : (p : PolicyView) (s : Option Text) → ((s ≡ None) ⊎ Any (λ b. filled_namespace b.namespace ≡ s) p.held.bindings) ↔ IsScope p s
 is_scope p None = (λ any. tt, λ is. inl refl)
 is_scope p (Some namespace) = (
@@ -109,7 +109,7 @@ is_scope p (Some namespace) = (
 pub all_scopes : (p : PolicyView) (ss : List (Option Text)) (last : Option Text) → AreScopesOf p.held.bindings ss last → (s : Option Text) → Contains ss s ↔ IsScope p s
 all_scopes p ss last are s = (λ c. (is_scope p s).0 ((are.exact s).0 c), λ is. (are.exact s).1 ((is_scope p s).1 is))
 
--- a binding's scope that is the last one is the same
+-- scopes that compare as equal are the same
 pub same_option : (a b : Option (Bor Text)) → option_eq (λ x y. bytes_eq x.now y.now) a b ≡ true → option_copied a ≡ option_copied b
 same_option None None e = refl
 same_option None (Some y) e = absurd (let both : false ≡ true = e in cc)
@@ -123,7 +123,7 @@ module _ {R : Type 0} (f : R → Option Text) where
       (subst (λ (ss : List (Option Text)). AreScopesOf (bs ++ b ∷ []) ss (f x)) (sym (ap (map f) pushed ∙ map_push f xs x))
       (scopes_more bs b (map f xs) (f last) are (f x) (sym is)))
 
--- what is in some of the scopes
+-- the nodes in some scope
 module _ (p : PolicyView) (names : List Text) (rs : List (Bor ClusterRole)) (named : (role : ClusterRole) → Contains (map (λ each. each.now) rs) role ↔ IsNamedRole p.held.cluster_roles names role) where
   in_scope : (s : Option Text) (y : NodeView) → IsInScope rs s y ↔ ((y ≡ EverythingIn s) ⊎ IsNamedInScope p names s y)
   in_scope s y = (
@@ -189,7 +189,7 @@ module _ {X : Type 0} (f : X → Who) (xs : List X) (p : PolicyView) (names : Li
     λ has. adds.has (EverythingIn (Some namespace)) (inr (Some namespace, has, inl refl)),
   )
 
--- roles that were added since change nothing of that
+-- after roles were added, this still holds
 module _ {X : Type 0} (Is : X → NodeView → Type 0) (are_roles : (x : X) (y : NodeView) → Is x y → (s : Option Text) → ¬ (y ≡ EverythingIn s)) (p : PolicyView) where
   pub still_there : (xs : List X) (a b : PrintedNodes) → ScopesAreThere p a → AddsNodes (λ y. Any (λ x. Is x y) xs) a b → ScopesAreThere p b
   still_there xs a b there adds namespace = (
@@ -214,7 +214,7 @@ module _ (p : PolicyView) (names : List Text) (role : Role) where
   pub is_own : (y : NodeView) → IsBoundRole p names role y → (s : Option Text) → ¬ (y ≡ EverythingIn s)
   is_own y is s e = let both : OwnRole role ≡ EverythingIn s = sym is.0 ∙ e in cc
 
--- a role where everything in its namespace is there
+-- a Role is added if the map has everything in its namespace
 module _ (role : Role) (a : PrintedNodes) where
   pub role_there : (b : PrintedNodes) → IsSome (get text_cmp a (node_text (EverythingIn (Some role.namespace)))) → AddsNodes (λ y. y ≡ OwnRole role) a b → AddsNodes (IsRoleThere a role) a b
   role_there b some adds = adds_same (λ y. y ≡ OwnRole role) (IsRoleThere a role) a b (λ y. (λ e. (e, some), λ is. is.0)) adds
@@ -225,7 +225,7 @@ module _ (role : Role) (a : PrintedNodes) where
 -- ---- the cluster roles with one of these names, role by role
 
 module _ {R : Type 0} (f : R → ClusterRole) (names : List Text) where
-  -- exactly those that were passed and have one of these names
+  -- exactly the cluster roles so far that have one of these names
   abbrev pub AreNamed : List ClusterRole → List R → Type 0
   AreNamed passed xs = (role : ClusterRole) → Contains (map f xs) role ↔ IsNamedRole passed names role
 

@@ -1,4 +1,5 @@
--- A rule lets one take over somebody by a row exactly if it takes a word by which they can be had.
+-- By a row, a rule takes over a user or a group exactly if it takes a word by which this one can be
+-- had.
 use Rattle.std.proofs.Common.{◌≡◌, ◌≢◌, ◌⊎◌, ◌↔◌, ◌∙◌, ℕ, zero, suc, ◌<◌, List, [], ◌∷◌, Option, Some, None, Contains, ap, arith, inl, inr, refl, subst, sym}
 use Rattle.rbac_terms.specs.Text.{Text}
 use Rattle.rbac_terms.specs.Targets.{Resource}
@@ -24,7 +25,7 @@ use Rattle.rbac_paths.proofs.Allowing.{any_name_for}
 
 -- ---- names
 
--- what is taken over has that name, or any if there is none
+-- a node has that name, or any name if there is none
 abbrev pub IsNameFor : Option Text → Text → Type 0
 IsNameFor None own = Unit {0}
 IsNameFor (Some name) own = name ≡ own
@@ -54,16 +55,16 @@ abbrev mark : Text → ℕ
 mark [] = 0
 mark (b ∷ t) = b
 
--- two words behind other marks are no one word
+-- words with different marks differ
 unlike : (w a b : Text) → w ≡ a → w ≡ b → mark a ≢ mark b → ⊥
 unlike w a b is other differ = differ (ap mark (sym is ∙ other))
 
--- what stands behind the mark
+-- the part of a word after its mark
 abbrev behind : Text → Text
 behind [] = []
 behind (b ∷ t) = t
 
--- the words of a user who is no account, of a group and of an account, one by one
+-- the words of a user who is no service account, of a group, and of a service account, one by one
 module _ (w : Text) where
   in_two : (a b : Text) (ws : List Text) → ws ≡ a ∷ b ∷ [] → Contains ws w → (w ≡ a) ⊎ (w ≡ b)
   in_two a b ws e h = elim (of_cons a (b ∷ []) w (subst (λ (l : List Text). Contains l w) e h)) [
@@ -80,7 +81,7 @@ module _ (w : Text) where
     ])
   ]
 
--- what the mark of a word tells of whom it is for
+-- which marks the words for this user or group can have
 abbrev IsMarkFor : Who → ℕ → Type 0
 IsMarkFor (AsUser user given) k = (((n m : Text) → IsAccountNamed (AsUser user given) n m → ⊥) × (80 < k)) ⊎ (((n : Text) × (m : Text) × IsAccountNamed (AsUser user given) n m) × (k < 70))
 IsMarkFor (AsMember group) k = (70 < k) × (k < 80)
@@ -108,7 +109,7 @@ told_by_mark (AsUser user given) ws w (inl (none, e)) h = inl (none, above (mark
 told_by_mark (AsUser user given) ws w (inr (namespace, name, one, e)) h = inr ((namespace, name, (one namespace name).1 (refl, refl)), below w user namespace name (in_four w any_account (any_account_of namespace) (any_account_named name) (that_account user) ws e h))
 told_by_mark (AsMember group) ws w e h = amid (mark w) (marked_two w any_group (that_group group) (in_two w any_group (that_group group) ws e h))
 
--- the one of these words that has the mark
+-- if a word is one of two, and has another mark than the first, it is the second
 is_second : (w a b : Text) → (w ≡ a) ⊎ (w ≡ b) → mark w ≢ mark a → w ≡ b
 is_second w a b (inl e) differ = absurd (differ (ap mark e))
 is_second w a b (inr e) differ = e
@@ -135,9 +136,9 @@ module _ (w user namespace name : Text) where
   is_that (inr (inr (inl e))) k = absurd (let j : mark w ≡ 67 = ap mark e in omega (arith, j, k))
   is_that (inr (inr (inr e))) k = e
 
--- ---- a row takes over whom it shares a word with
+-- ---- a row takes over exactly the users and groups with which it shares a word
 
--- what is asked to take somebody over
+-- the namespace and the name in a row's requests that take over a user or a group
 record IsAskedFor (o : Over) (counts : Counts) (home c : Option Text) (who : Who) (namespace own : Text) : Type 0 where
   pub over : IsOver o counts (Somebody who) namespace own
   pub named : IsNameFor c own
@@ -224,7 +225,7 @@ group_mark counts None (Some name) w is = let k : mark w ≡ 72 = ap mark is in 
 group_mark counts (Some home) None w is = elim is [ ]
 group_mark counts (Some home) (Some name) w is = elim is [ ]
 
--- a shared word lets one ask
+-- if a word is shared, some request takes over the user or group
 shared : (o : Over) (counts : Counts) (home c : Option Text) (who : Who) (ws : List Text) (w : Text) → AreHadBy who ws → Contains ws w → IsWordFor o counts home c w → CanAsk o counts home c who
 shared over.Users counts None None (AsUser user given) ws w of h is = users_any counts user given ws w h of is
 shared over.Users counts None (Some name) (AsUser user given) ws w of h is = users_named counts user given ws w h name of is
@@ -252,7 +253,7 @@ shared over.Everything counts home c who ws w of h is = elim is [ ]
 shared over.ClusterRoles counts home c who ws w of h is = elim is [ ]
 shared over.Roles counts home c who ws w of h is = elim is [ ]
 
--- whom one can ask for shares a word
+-- if some request takes over a user or a group, a word is shared
 has : (ws all : List Text) (w : Text) → ws ≡ all → Contains all w → Contains ws w
 has ws all w e h = subst (λ (l : List Text). Contains l w) (sym e) h
 
@@ -287,7 +288,7 @@ module _ (namespace own group text name : Text) where
   asked over.ClusterRoles counts home c who ws of is named live = elim is [ ]
   asked over.Roles counts home c who ws of is named live = elim is [ ]
 
--- ---- a rule takes over whom it shares a word with
+-- ---- a rule takes over exactly the users and groups with which it shares a word
 
 module _ (row : StepRowView) (home : Option Text) (rule : Rule) (who : Who) (ws : List Text) (of : AreHadBy who ws) where
   by_word : (w : Text) → Contains ws w → TakesWord row home rule w → RowTakes row home rule (Somebody who)

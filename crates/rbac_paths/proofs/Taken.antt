@@ -1,4 +1,5 @@
--- A holding takes over a node by a row exactly if it counts where that is asked, and allows it by the node's name.
+-- A holding takes over a node by a row exactly if it counts for the row's requests in the node's
+-- namespace, and its rule allows one of them for a node with this name.
 use Rattle.std.proofs.Common.{◌≡◌, ◌↔◌, ◌++◌, ◌∷◌, [], None, Option, Some, Any, List, arith, inl, inr, refl, subst}
 use Rattle.rbac_terms.specs.Text.{Text}
 use Rattle.rbac_terms.specs.Targets.{Resource}
@@ -10,7 +11,7 @@ use Rattle.rbac_paths.specs.Nodes.{NodeView}
 use Rattle.rbac_paths.specs.Steps.{StepRowView, asked_in}
 use Rattle.rbac_paths.specs.Taking.{IsOver, RowTakes}
 
--- where a binding is live for a resource it is so for each
+-- a binding that is live for a resource is live for every resource there
 live_for : (home : Option Text) (asked group text name : Text) → Live home asked (Resource group text name) → (t n : Text) → Live home asked (Resource group t n)
 live_for None asked group text name live t n = tt
 live_for (Some own) asked group text name live t n = live
@@ -48,7 +49,7 @@ module _ (row : StepRowView) (y : NodeView) (namespace own : Text) (one : (n o :
   pub some_asked : (hs : List HoldingView) → Any (AllowsAsked row namespace own) hs ↔ Any (λ h. RowTakes row h.home h.rule y) hs
   some_asked hs = (λ a. (a.0, a.1, a.2, a.3, (asked_takes a.1).0 a.4), λ a. (a.0, a.1, a.2, a.3, (asked_takes a.1).1 a.4))
 
--- nobody's requests are asked of a row that isn't over the node
+-- no holding takes over a node by a row that can't take over the node
 pub none_asked : (row : StepRowView) (y : NodeView) → ((n o : Text) → ¬ IsOver row.over row.counts y n o) → (h : HoldingView) → ¬ RowTakes row h.home h.rule y
 none_asked row y none h w = none w.namespace w.own w.over
 

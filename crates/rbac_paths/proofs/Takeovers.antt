@@ -1,4 +1,5 @@
--- What a rule takes over by rows says which words it takes, and whether it is over roles or everything.
+-- The takeovers of a rule decide which words it takes, and whether it takes over roles or
+-- everything.
 use Rattle.std.proofs.Common.{◌≡◌, ◌↔◌, ◌∷◌, List, Option, Any, Contains, [], ap, arith, length, refl, subst, sym}
 use Rattle.rbac_terms.specs.Text.{Text}
 use Rattle.rbac_terms.specs.declared.matching.Rule.{Rule}
@@ -13,7 +14,7 @@ use Rattle.rbac_paths.specs.Takeovers.{AreTakeovers, HasTakeover, takeover_of}
 use Rattle.rbac_paths.specs.declared.steps.Step.{Step}
 use Rattle.rbac_paths.specs.declared.takeover.Takeover.{Takeover}
 
--- what rows of a step say of a rule is what the table says
+-- a rule has a takeover by the rows of a step exactly if it has it by the table
 pub by_rows : (step : Step) (rows : List StepRowView) → AreOfStep step table rows → (rule : Rule) (t : Takeover)
     → Any (λ row. (takeover_of row ≡ t) × MatchesRow row rule) rows ↔ HasTakeover rule t step
 unfolding HasTakeover
@@ -23,7 +24,7 @@ by_rows step rows of rule t = (
 )
 
 module _ (steps : List Step) (rule : Rule) (ts : List Takeover) (are : AreTakeovers steps rule ts) where
-  -- the rule matches some row exactly if it takes over something
+  -- the rule matches a row exactly if it has a takeover
   pub some_matches : (t : Takeover) → Contains ts t → SomeRowMatches steps rule
   unfolding SomeRowMatches MatchesStep HasTakeover
   some_matches t c =
@@ -42,7 +43,7 @@ module _ (steps : List Step) (rule : Rule) (ts : List Takeover) (are : AreTakeov
             (any_from (λ r. (r.step ≡ m.1) × ((takeover_of r ≡ t) × MatchesRow r rule)) table row (m.4.0, m.4.2, m.4.3) (m.4.4.0, (refl, m.4.4.1)))),
       )
 
-  -- the words that it takes
+  -- the words that the rule takes
   pub same_words : (home : Option Text) (w : Text) → Any (λ t. LetsWord t home rule w) ts ↔ Any (StepTakesWord home rule w) steps
   unfolding HasTakeover
   same_words home w = (
@@ -60,11 +61,11 @@ module _ (steps : List Step) (rule : Rule) (ts : List Takeover) (are : AreTakeov
         (any_from (λ r. (r.step ≡ m.1) × ((takeover_of r ≡ t) × MatchesRow r rule)) table row (m.4.0, m.4.2, m.4.3) (m.4.4.0, (refl, m.4.4.1.0))))) m.4.4.1.1),
   )
 
-  -- whether it takes over nothing
+  -- a rule without takeovers matches no row
   pub matches_none : ts ≡ [] → SomeRowMatches steps rule → ⊥
   matches_none none m = let low = (subst (λ (xs : List Takeover). Contains xs (matches_some m).0) none (matches_some m).1).1 in omega (arith, low)
 
-  -- whether it is over roles or everything
+  -- whether the rule takes over roles or everything
   pub same_over : Any (λ t. IsOverNobody t.over) ts ↔ Any (MayTakeBy rule) steps
   unfolding HasTakeover MayTakeBy
   same_over = (

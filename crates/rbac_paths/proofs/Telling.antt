@@ -1,4 +1,4 @@
--- The powers tell who can take which step.
+-- The powers list exactly who can take which step.
 use Rattle.std.proofs.Common.{◌≡◌, ◌∙◌, ℕ, List, Option, Some, None, Any, Contains, slice_get, refl, sym, ap, subst, arith}
 use Rattle.std.proofs.lemmas.Option.{slice_get_within, slice_get-get_or, get_or_from_slice_get}
 use Rattle.rbac_terms.specs.Text.{Text}
@@ -30,20 +30,23 @@ in_steps Escalate = (7, omega arith, refl)
 in_steps Certificates = (8, omega arith, refl)
 in_steps Webhooks = (9, omega arith, refl)
 
--- where a binding is live for a request of a row, the row counts, and what holds where the binding is holds there
+-- if a binding is live for a request of a row, the row counts for the binding, and a power by the
+-- binding holds where the request is made
 counts_there : (own : Option Text) (r : StepRowView) (place : Counts) (namespace verb text name : Text) → r.counts ≡ place → Live own (asked_in place namespace) (Resource r.group text name) → CountsIn r own × AlsoHoldsIn own namespace
 counts_there None r place namespace verb text name is live = (tt, tt)
 counts_there (Some own) r counted.ClusterWide namespace verb text name is live = absurd (live.0 refl)
 counts_there (Some own) r counted.InNamespaces namespace verb text name is live = ((is, λ e. live.0 (sym live.1 ∙ e)), live.1)
 
--- where a row counts that is asked there, a binding is live
+-- if a row counts for a binding, and a power by the binding holds there, the binding is live for
+-- the row's requests there
 live_there : (own : Option Text) (r : StepRowView) (namespace text name : Text) → AlsoHoldsIn own namespace → CountsIn r own → Live own (asked_in r.counts namespace) (Resource r.group text name)
 live_there None r namespace text name holds counts = tt
 live_there (Some own) r namespace text name holds counts =
     let asked : asked_in r.counts namespace ≡ namespace = ap (λ (p : Counts). asked_in p namespace) counts.0 in
     (λ e. counts.1 (holds ∙ sym asked ∙ e), holds ∙ sym asked)
 
--- a grant gives somebody the step by one of their keys, and what holds where its binding is holds there
+-- a grant gives a principal the step by one of its keys, and a power by the grant's binding holds
+-- there
 pub record GivesSomebody (p : PolicyView) (who : Who) (step : Step) (namespace : Text) : Type 0 where
   pub place : ℕ
   pub grant : GrantView
@@ -54,7 +57,7 @@ pub record GivesSomebody (p : PolicyView) (who : Who) (step : Step) (namespace :
   pub holds : AlsoHoldsIn grant.binding.namespace namespace
   pub theirs : IsKeyFor who key
 
--- what somebody can take, some grant gives them
+-- if a principal can take a step, some grant gives it the step
 pub given : (p : PolicyView) → IsPolicy p → (who : Who) (step : Step) (namespace : Text) → CanTake p who step namespace → GivesSomebody p who step namespace
 given p ok who step namespace c =
     let row = c.row in

@@ -1,4 +1,4 @@
--- Paths by where their nodes are on shortest ways, one after another.
+-- Paths, listed one after another by where their nodes are on shortest ways.
 use Rattle.std.proofs.Common.{◌≡◌, ◌≢◌, ◌↔◌, ◌∙◌, ◌<◌, ◌+◌, ◌++◌, ℕ, List, [], ◌∷◌, Option, MatchOption, None, Some, AllPairs, Contains, ap, ap₂, arith, get_or, inl, inr, length, refl, slice_get, subst, sym, take}
 use Rattle.std.specs.declared.cmp.Ordering.TheVariants.{Less}
 use Rattle.std.proofs.lemmas.Bool.{cases_eq}
@@ -55,13 +55,13 @@ module _ (P : ℕ → Type 0) where
   pub all_below : (bound : ℕ) (js : List ℕ) → ((j : ℕ) → P j → j < bound) → AreBelow P bound js → (j : ℕ) → Contains js j ↔ P j
   all_below bound js within below j = (λ c. ((below j).0 c).1, λ is. (below j).1 (within j is, is))
 
--- a node of this kind is at the place, so the node there is one
+-- if a place has a node with the property, the node at that place has the property
 pub is_here : (Is : NodeView → Type 0) (ys : List NodeView) (j : ℕ) (y : NodeView) → slice_get ys j ≡ Some y → IsAt Is ys j → Is y
 is_here Is ys j y at has = subst Is (same_Some has.0 y (sym has.1 ∙ at)) has.2
 
 -- ---- one path
 
--- what an answer says, where it is none, and where it is one
+-- what a match says of an option without a value, and of one with a value
 pub matched_none : {X : Type 0} (o : Option X) (N : Type 0) (P : X → Type 0) → ((x : X) → o ≡ Some x → ⊥) → MatchOption o N P → N
 matched_none None N P none m = m
 matched_none (Some x) N P none m = absurd (none x refl)
@@ -83,20 +83,20 @@ module _ (p : PolicyView) (steps : List Step) (ys : List NodeView) (stops : List
   pub start : (j : ℕ) (s : Stop) → stop_at j ≡ Some s → s.edges ≡ 0 → IsUnled stops j
   start j s at none t there = ap (λ (x : Stop). x.edges) (same_Some t s (sym there ∙ at)) ∙ none
 
-  -- who is before takes over the node
+  -- the node before takes over the node
   pub takes_both : AreLinked p steps ys stops → (j : ℕ) (s : Stop) → stop_at j ≡ Some s → s.edges ≢ 0 → (x y : NodeView) → slice_get ys s.before ≡ Some x → slice_get ys j ≡ Some y → TakesOver p steps x y
   takes_both linked j s at led x y before here =
       let w = linked j s at led in
       subst (λ (z : NodeView). TakesOver p steps z y) (same_Some w.0 x (sym w.2 ∙ before)) (subst (λ (z : NodeView). TakesOver p steps w.0 z) (same_Some w.1 y (sym w.3 ∙ here)) w.4)
 
-  -- ---- several
+  -- ---- several paths
 
   module _ (up : AllPairs (λ y z. text_cmp (node_text y) (node_text z) ≡ Less) ys) where
     printed : (i j : ℕ) (x y : NodeView) → i < j → slice_get ys i ≡ Some x → slice_get ys j ≡ Some y → text_cmp (node_text x) (node_text y) ≡ Less
     printed i j x y low at there =
         ap₂ (λ (a : NodeView) (b : NodeView). text_cmp (node_text a) (node_text b)) (sym (get_or_from_slice_get ys i x x at)) (sym (get_or_from_slice_get ys j y x there)) ∙ up i j x low (slice_get_within ys j y there)
 
-    -- of two nodes the one that is met first comes first
+    -- a node that is met before another is listed before it
     pub first_met : (i j : ℕ) (s t : Stop) (x y : NodeView) → IsMetBefore stops i j → stop_at i ≡ Some s → stop_at j ≡ Some t → slice_get ys i ≡ Some x → slice_get ys j ≡ Some y
         → IsSooner s.edges t.edges x y
     first_met i j s t x y met first second here there =
@@ -112,7 +112,7 @@ module _ (p : PolicyView) (steps : List Step) (ys : List NodeView) (stops : List
         subst (λ (n : ℕ). IsSooner n y.count x.node y.node) (sym a.count)
         (subst (λ (m : ℕ). IsSooner a.stop.edges m x.node y.node) (sym b.count) (first_met i j a.stop b.stop x.node y.node met a.at b.at a.node b.node))
 
--- what is told at places, one after another
+-- what is listed at places, one after another
 module _ {X : Type 0} (IsAt : ℕ → X → Type 0) (IsPassed : ℕ → Type 0) (ComesBefore : X → X → Type 0) where
   pub told_none : (xs : List X) → xs ≡ [] → AreToldAt IsAt IsPassed ComesBefore [] xs
   told_none xs empty = record {
@@ -150,7 +150,7 @@ module _ {X : Type 0} (IsAt : ℕ → X → Type 0) (IsPassed : ℕ → Type 0) 
           later w.0 (get_or xs k d) w.1 w.2);
     }
 
--- each node before a place of the order is met before the one there
+-- each node that is earlier in the order is met before the node at place i
 pub met_before : (stops : List (Option Stop)) (order : List ℕ) → AreInOrder stops order → (i place : ℕ) → i < length order → place ≡ get_or order i place → (j : ℕ) → Contains (take i order) j → IsMetBefore stops j place
 met_before stops order are i place low is j c =
     let len = length-take i order in

@@ -1,4 +1,4 @@
--- What is taken over by some of these steps, and what is told of it.
+-- What is taken over by some steps, and what `bind` and `escalate` leave out.
 use Rattle.std.proofs.Common.{◌≡◌, ◌<◌, ◌≤◌, ◌∙◌, ◌+◌, ◌⊎◌, ℕ, Any, List, Option, Some, None, Contains, arith, inl, inr, length, refl, slice_get, subst, sym}
 use Rattle.std.proofs.lemmas.Bool.{cases_lt}
 use Rattle.std.proofs.lemmas.Option.{same_Some, slice_get_within}
@@ -20,7 +20,7 @@ either : {A B C D : Type 0} → (A → C) → (B → D) → A ⊎ B → C ⊎ D
 either f g (inl a) = inl (f a)
 either f g (inr b) = inr (g b)
 
--- what is untold is so as well where all is taken over in more scopes and by binding more nodes
+-- a node that is left out is still left out if more is taken over by `bind` and `escalate`
 untold_too : (A C : Option Text → Type 0) (B D : NodeView → Type 0) → ((scope : Option Text) → A scope → C scope) → ((y : NodeView) → IsNobody y → B y → D y) → (y : NodeView) → IsUntoldBy A B y → IsUntoldBy C D y
 untold_too A C B D f g (Somebody who) u = u
 untold_too A C B D f g (EverythingIn None) u = u
@@ -30,7 +30,7 @@ untold_too A C B D f g (ClusterRoleIn role (Some namespace)) u = either (f None)
 untold_too A C B D f g (OwnRole role) u = either (f None) (f (Some role.namespace)) u
 
 module _ (p : PolicyView) (x : NodeView) (hs : List HoldingView) (steps : List Step) (y : NodeView) (decide : DecideOn p steps x hs (IsAboutNode y)) where
-  -- everything in a scope
+  -- taking over everything in a scope
   pub has_all : (scope : Option Text) → HoldingsHaveAll steps hs scope → HasAll p steps x scope
   unfolding HoldingsHaveAll
   has_all scope a = (a.1, a.4.0, (a.0, a.2, a.3), (decide a.1 (EverythingIn scope) (a.0, a.2, a.3) (inr tt)).0 a.4.1)
@@ -39,7 +39,7 @@ module _ (p : PolicyView) (x : NodeView) (hs : List HoldingView) (steps : List S
   unfolding HoldingsHaveAll
   have_all scope w = any_from (λ s. WritesRoles s × HoldingsTake s hs (EverythingIn scope)) steps w.0 w.2 (w.1, (decide w.0 (EverythingIn scope) w.2 (inr tt)).1 w.3)
 
-  -- by binding
+  -- taking over by `bind`
   binds : (z : NodeView) → IsNobody z → HoldingsBind steps hs z → BindsNode p steps x z
   unfolding HoldingsBind
   binds z nobody a =
@@ -56,18 +56,18 @@ module _ (p : PolicyView) (x : NodeView) (hs : List HoldingView) (steps : List S
   untold_of : IsUntold p steps x y → IsUntoldOf steps hs y
   untold_of = untold_too (HasAll p steps x) (HoldingsHaveAll steps hs) (BindsNode p steps x) (HoldingsBind steps hs) have_all bind y
 
-  -- told by what it has is told
+  -- x takes over y by the step exactly if its holdings do, and the step doesn't leave out y
   takes_by : MayGoOn x y → (s : Step) → Contains steps s → HoldingsTell steps hs y s → TakesByStep p steps x s y
   takes_by on s among told = record { goes_on = on; among = among; can = (decide s y among (inl refl)).0 told.0; told = λ writes untold. told.1 writes (untold_of untold) }
 
   told_by : (s : Step) → TakesByStep p steps x s y → HoldingsTell steps hs y s
   told_by s takes = ((decide s y takes.among (inl refl)).1 takes.can, λ writes untold. takes.told writes (is_untold untold))
 
--- all that a node has decides
+-- all holdings of a node decide what it takes over
 pub all_decide : (p : PolicyView) → IsPolicy p → (x : NodeView) (hs : List HoldingView) → AreHoldings p x hs → (steps : List Step) (y : NodeView) → DecideOn p steps x hs (IsAboutNode y)
 all_decide p ok x hs are steps y step z among about = (by_holdings p ok x hs are step z, in_holdings p ok x hs are step z)
 
--- none of the first steps is so
+-- none of the first `count` steps has the property
 abbrev pub NoneTo : (Step → Type 0) → List Step → ℕ → Type 0
 NoneTo P steps count = (k : ℕ) (s : Step) → k < count → slice_get steps k ≡ Some s → ¬ P s
 
@@ -88,14 +88,15 @@ module _ (P : Step → Type 0) (steps : List Step) where
       let at = read_contains steps a.1 (a.0, a.2, a.3) in
       none at.0 a.1 (let low = slice_get_within steps at.0 a.1 at.1 in omega (arith, low, all)) at.1 a.4
 
--- writing by the step takes over everything in the scope, and binding by it the node
+-- the step is `bind` or `escalate`, and takes over everything in the scope
 abbrev pub TakesAll : List HoldingView → Option Text → Step → Type 0
 TakesAll hs scope s = WritesRoles s × HoldingsTake s hs (EverythingIn scope)
 
+-- the step is `bind`, and takes over the node
 abbrev pub Binds : List HoldingView → NodeView → Step → Type 0
 Binds hs y s = (s ≡ Bind) × HoldingsTake s hs y
 
--- none of the first steps is told
+-- by none of the first `count` steps the node is taken over
 abbrev pub ToldNoneTo : List Step → List HoldingView → NodeView → ℕ → Type 0
 ToldNoneTo steps hs y count = NoneTo (HoldingsTell steps hs y) steps count
 

@@ -1,4 +1,4 @@
--- The ways that a search back through the graph of nodes finds are those to what is asked for.
+-- A search back through the graph of nodes finds exactly the ways to a request.
 use Rattle.std.proofs.Common.{◌≡◌, ◌≢◌, ◌↔◌, ◌∙◌, ◌+◌, ◌<◌, ℕ, zero, suc, List, Option, None, Some, IsSome, Any, Contains, arith, get_or, inl, inr, length, refl, slice_get, subst, sym}
 use Rattle.std.proofs.lemmas.List.{get_or_default}
 use Rattle.std.proofs.lemmas.Option.{same_Some}
@@ -36,11 +36,11 @@ module _ (p : PolicyView) (ok : IsPolicy p) (all : List Who) (names : List Text)
   is_node : (y : NodeView) → Contains ys y → IsNode p all y
   is_node y c = ((are.exact y).0 c).0
 
-  -- who is taken over by a listed node is listed
+  -- each node that a listed node takes over is listed
   closed : (x y : NodeView) → Contains ys x → Goes x y → Contains ys y
   closed x y c goes = (are.exact y).1 (goes.0, named p ok all names bound ys are steps x y (is_node x c) goes.1)
 
-  -- ---- from users and groups
+  -- ---- the search from users and groups
 
   module _ (g : GraphView) (graph : IsGraphOf p steps ys g) (starts : List ℕ) (somebody : (j : ℕ) → Contains starts j ↔ IsAt IsSomebody ys j) where
     abbrev IsStart : NodeView → Type 0
@@ -82,16 +82,16 @@ module _ (p : PolicyView) (ok : IsPolicy p) (all : List Who) (names : List Text)
           let s = stop_there g starts come met w.0 r.0 low r.2 in
           (r.0, r.1, subst (λ (o : Option Stop). IsSome o) (sym s.1) refl)
 
-  -- ---- back from what allows it
+  -- ---- the search back from the nodes that allow the request
 
-  -- back to listed nodes alone
+  -- a step back to a listed node
   abbrev BackTo : NodeView → NodeView → Type 0
   BackTo y x = Contains ys x × Back y x
 
   abbrev IsEnd : NodeView → Type 0
   IsEnd y = Contains ys y × Ends y
 
-  -- from a listed node all that steps lead to is listed
+  -- all nodes on a way from a listed node are listed
   leads_in : (n : ℕ) (x : NodeView) → Contains ys x → LeadsTo Back Ends n x → LeadsTo BackTo IsEnd n x
   leads_in zero x c is = (c, is)
   leads_in (suc n) x c (y, l, goes) = (y, leads_in n y (closed x y c goes) l, (c, goes))

@@ -1,4 +1,4 @@
--- Ways by where their nodes are on shortest ways back, one after another.
+-- Ways, listed one after another by where their nodes are on shortest ways back.
 use Rattle.std.proofs.Common.{◌≡◌, ◌≢◌, ◌∙◌, ℕ, IsSome, List, MatchOption, None, Option, inl, inr, refl, Some, AllPairs, ap, get_or, slice_get, subst, sym}
 use Rattle.std.specs.declared.cmp.Ordering.TheVariants.{Less}
 use Rattle.std.proofs.lemmas.Option.{same_Some}
@@ -36,7 +36,7 @@ module _ (p : PolicyView) (steps : List Step) (ys : List NodeView) (stops : List
         subst (λ (n : ℕ). IsSooner n y.count x.node y.node) (sym a.1.count)
         (subst (λ (m : ℕ). IsSooner a.1.stop.edges m x.node y.node) (sym b.1.count) (first_met p steps ys stops up i j a.1.stop b.1.stop x.node y.node met a.1.at b.1.at a.1.node b.1.node))
 
-  -- the way of no steps, told at the place of a node that has no edge to go on
+  -- the way without steps, at the place of a node whose way has no edges
   module _ (asked : AccessView) (ends : AllowAtEnds p asked ys stops) (j : ℕ) (s : Stop) (at : get_or stops j None ≡ Some s) (end : s.edges ≡ 0) (y : NodeView) (here : slice_get ys j ≡ Some y) where
     own_at : (x : WayView) → IsOwnWay p asked y x → IsWayAt p steps asked ys stops j x
     own_at x w = record {
@@ -53,7 +53,7 @@ module _ (p : PolicyView) (steps : List Step) (ys : List NodeView) (stops : List
     own_told None none = absurd (none (is_here (AllowsAccess p asked) ys j y here (ends j s at end)))
     own_told (Some x) w = own_at x w
 
-  -- what is told at a place that is come to, and at one that isn't
+  -- what is listed at a place to which a way leads, and at one to which none leads
   module _ (asked : AccessView) (come : List (Option Stop)) (j : ℕ) where
     pub told_there : IsSome (get_or come j None) → (o : Option WayView) → MatchOption o (get_or stops j None ≡ None) (IsWayAt p steps asked ys stops j) → MatchOption o (IsUntoldAt come stops j) (IsToldAt p steps asked ys come stops j)
     told_there is None none = inr none

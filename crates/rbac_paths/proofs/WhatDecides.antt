@@ -30,7 +30,7 @@ use Rattle.rbac_paths.proofs.GraphOf.{pushed}
 
 -- ---- which rules match
 
--- what rows of a step say of a rule is what the table says
+-- a rule matches a row among the rows of a step exactly if it matches the step by the table
 pub matches_rows : (step : Step) (rows : List StepRowView) → AreOfStep step table rows → (rule : Rule) → Any (λ row. MatchesRow row rule) rows ↔ MatchesStep rule step
 unfolding MatchesStep
 matches_rows step rows of rule = (
@@ -52,7 +52,7 @@ step_matches steps step among h y a =
     any_from (MatchesStep h.rule) steps step among
     (any_from (λ row. (row.step ≡ step) × MatchesRow row h.rule) table a.1 (a.0, a.2, a.3) (a.4.0, row_matches a.1 h y a.4.1))
 
--- ---- what is listed at some places
+-- ---- the numbers that are listed at some places
 
 abbrev pub AreListedAt : List (List ℕ) → List ℕ → List ℕ → Type 0
 AreListedAt lists places numbers = (n : ℕ) → Contains numbers n ↔ ((at : ℕ) × Contains places at × Contains (get_or lists at []) n)
@@ -78,7 +78,7 @@ listed_more lists places place numbers are n = (
 -- ---- the grants whose rules match
 
 module _ (p : PolicyView) (steps : List Step) where
-  -- of a grant whose rule is known
+  -- the rule of a grant whose rule matches
   pub taking_rule : (number : ℕ) (g : GrantView) → slice_get p.grants number ≡ Some g → IsTakingAt p steps number → SomeRowMatches steps g.rule.rule
   taking_rule number g here is = subst (λ (x : GrantView). SomeRowMatches steps x.rule.rule) (same_Some is.0 g (sym is.1 ∙ here)) is.2
 
@@ -93,7 +93,7 @@ module _ (p : PolicyView) (steps : List Step) where
         (are n).1 (of.0, (named n of.0 of.1).1 w.0, (taking n of.0).1 (of.1, w.1))),
   )
 
-  -- ---- what these grants give
+  -- ---- the holdings that these grants give
 
   pub numbers_within : (y : NodeView) (numbers : List ℕ) → AreNumbersOf p steps y numbers → (n : ℕ) → Contains numbers n → n < length p.grants
   numbers_within (Somebody who) numbers are n c = let w = (are n).0 c in slice_get_within p.grants n w.1.0 w.1.1
@@ -123,7 +123,7 @@ given_more p numbers number g here hs give h = (
   ],
 )
 
--- what somebody's grants whose rules match give decides what they take over
+-- the grants of a principal whose rules match decide what it takes over
 pub given_decide : (p : PolicyView) → IsPolicy p → (who : Who) (steps : List Step) (numbers : List ℕ) → AreTakingNumbers p steps who numbers → (hs : List HoldingView) → GiveHoldings p numbers hs → DecideOn p steps (Somebody who) hs IsAnyNode
 unfolding HoldingsTake HoldingTakes
 given_decide p ok who steps numbers are hs give step y among any = (
@@ -140,7 +140,7 @@ given_decide p ok who steps numbers are hs give step y among any = (
       any_from (λ h. RuleTakes step h.home h.rule y) hs (grant_holding g) ((give (grant_holding g)).1 (w.0, (are w.0).1 ((g, w.2, w.3.0), is), (g, w.2, refl))) w.3.1),
 )
 
--- so does all that a node has
+-- all holdings of a node decide what it takes over
 pub held_decide : (p : PolicyView) → IsPolicy p → (x : NodeView) (hs : List HoldingView) → AreHoldings p x hs → (steps : List Step) → DecideOn p steps x hs IsAnyNode
 held_decide p ok x hs are steps step y among any = (by_holdings p ok x hs are step y, in_holdings p ok x hs are step y)
 
@@ -148,7 +148,7 @@ pub given_for : (p : PolicyView) → IsPolicy p → (steps : List Step) (y : Nod
 given_for p ok steps y numbers hs who is are give =
     subst (λ (z : NodeView). DecideOn p steps z hs IsAnyNode) (sym is) (given_decide p ok who steps numbers (subst (λ (z : NodeView). AreNumbersOf p steps z numbers) is are) hs give)
 
--- what decides about all nodes decides about one of them
+-- holdings that decide about all nodes also decide about one of them
 pub decide_about : (p : PolicyView) (steps : List Step) (x : NodeView) (hs : List HoldingView) → DecideOn p steps x hs IsAnyNode → (y : NodeView) → DecideOn p steps x hs (IsAboutNode y)
 decide_about p steps x hs decide y step z among about = decide step z among tt
 
@@ -170,14 +170,14 @@ same_numbers p a b xs ys ls ms steps nodes lists are =
     (subst (λ (zs : List Node). AreNumbers p b (map node_of zs) (length zs) ls) nodes
     (subst (λ (ss : List Step). AreNumbers p ss (map node_of xs) (length xs) ls) steps are))
 
--- ---- the first of somebody's grants that takes over a node
+-- ---- the first grant of a principal that takes over a node
 
 module _ (p : PolicyView) (step : Step) (y : NodeView) where
   pub least_none : IsLeastTaking p step y [] None
   least_none n c takes = let low = c.1 in omega (arith, low)
 
   module _ (numbers : List ℕ) (number : ℕ) where
-    -- one that isn't less than the least so far
+    -- a number that isn't less than the least so far is skipped
     pub least_stays : (o : Option ℕ) → (MatchOption o (Unit {0}) (λ n. number < n) → ⊥) → IsLeastTaking p step y numbers o → IsLeastTaking p step y (numbers ++ number ∷ []) o
     least_stays None more least = absurd (more tt)
     least_stays (Some found) more least = (
@@ -192,7 +192,7 @@ module _ (p : PolicyView) (step : Step) (y : NodeView) where
       ],
     )
 
-    -- one that doesn't take over the node
+    -- the number of a grant that doesn't take over the node is skipped
     pub least_skips : (o : Option ℕ) → (TakesBy p step y number → ⊥) → IsLeastTaking p step y numbers o → IsLeastTaking p step y (numbers ++ number ∷ []) o
     least_skips None isnt least = λ n c takes. elim (Contains-push_cases numbers number n c) [
       | inl old ↦ least n old takes
@@ -207,7 +207,7 @@ module _ (p : PolicyView) (step : Step) (y : NodeView) where
       ],
     )
 
-    -- one that is less, and does
+    -- a lesser number, of a grant that takes over the node, is the new least
     pub least_new : (o : Option ℕ) → MatchOption o (Unit {0}) (λ n. number < n) → TakesBy p step y number → IsLeastTaking p step y numbers o → IsLeastTaking p step y (numbers ++ number ∷ []) (Some number)
     least_new None less is least = (
       Contains-push numbers number,
@@ -224,7 +224,7 @@ module _ (p : PolicyView) (step : Step) (y : NodeView) where
     )
 
 module _ (p : PolicyView) (ok : IsPolicy p) (who : Who) (steps : List Step) (step : Step) (among : Contains steps step) (numbers : List ℕ) (are : AreTakingNumbers p steps who numbers) (y : NodeView) where
-  -- a grant that lets somebody take over the node is among them
+  -- a grant by which the principal takes over the node is among these
   listed_takes : (n : ℕ) (g : GrantView) → slice_get p.grants n ≡ Some g → GrantTakes who step y g → Contains numbers n × TakesBy p step y n
   unfolding HoldingTakes
   listed_takes n g here takes = ((are n).1 ((g, here, takes.0), (g, here, step_matches steps step among (grant_holding g) y takes.1)), (g, here, takes.1))

@@ -11,7 +11,7 @@ module _ {Y : Type 0} where
   pub adds_none : (Is : Y → Type 0) → ((w : Y) → Is w → ⊥) → (ws : List Y) → AddsWhere Is ws ws
   adds_none Is none ws w = (inl, λ h. elim h [ inl old ↦ old | inr is ↦ absurd (none w is) ])
 
-  -- the one, which may be there already
+  -- one word is added, which may be there already
   pub adds_word : (Is : Y → Type 0) (word : Y) → ((w : Y) → Is w ↔ (w ≡ word)) → (ws : List Y) → AddsWhere Is ws (ws ++ word ∷ [])
   adds_word Is word one ws w = (
     λ h. elim (Contains-push_cases ws word w h) [ inl old ↦ inl old | inr is ↦ inr ((one w).1 (sym is)) ],
@@ -24,21 +24,21 @@ module _ {Y : Type 0} where
   pub adds_had : (Is : Y → Type 0) (word : Y) → ((w : Y) → Is w → w ≡ word) → (ws : List Y) → Contains ws word → AddsWhere Is ws ws
   adds_had Is word one ws had w = (inl, λ h. elim h [ inl old ↦ old | inr is ↦ subst (λ (t : Y). Contains ws t) (sym (one w is)) had ])
 
-  -- all of these
+  -- all of these are added
   pub adds_all : (more ws : List Y) → AddsWhere (Contains more) ws (ws ++ more)
   adds_all more ws w = (
     Contains-append_cases ws more w,
     λ h. elim h [ inl old ↦ Contains-append_left ws more w old | inr new ↦ Contains-append_right ws more w new ],
   )
 
-  -- the same, said in another way
+  -- the same holds for an equivalent property
   pub adds_same : (Is Also : Y → Type 0) → ((w : Y) → Is w ↔ Also w) → (old new : List Y) → AddsWhere Is old new → AddsWhere Also old new
   adds_same Is Also same old new adds w = (
     λ h. elim ((adds w).0 h) [ inl was ↦ inl was | inr is ↦ inr ((same w).0 is) ],
     λ h. elim h [ inl was ↦ (adds w).1 (inl was) | inr is ↦ (adds w).1 (inr ((same w).1 is)) ],
   )
 
-  -- those of some of these
+  -- what some of these have is added
   module _ {X : Type 0} (Is : X → Y → Type 0) where
     abbrev pub AddsOf : List X → List Y → List Y → Type 0
     AddsOf xs old new = AddsWhere (λ w. Any (λ x. Is x w) xs) old new
@@ -70,7 +70,7 @@ module _ {Y : Type 0} where
     pub adds_each : (xs : List X) (i : ℕ) (a b : List Y) → length xs < i + 1 → AddsOf (take i xs) a b → AddsOf xs a b
     adds_each xs i a b end all = subst (λ (ys : List X). AddsOf ys a b) (take_all i xs (omega (arith, end))) all
 
-  -- where there was none, there are those that were added
+  -- a list that was empty has exactly what was added
   pub only_added : (Is : Y → Type 0) (ws : List Y) → AddsWhere Is [] ws → (w : Y) → Contains ws w ↔ Is w
   only_added Is ws adds w = (
     λ h. elim ((adds w).0 h) [ inl none ↦ absurd (let low = none.1 in omega (arith, low)) | inr is ↦ is ],

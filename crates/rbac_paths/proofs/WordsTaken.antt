@@ -1,4 +1,4 @@
--- A node takes over somebody exactly if it takes a word by which they can be had.
+-- A node takes over a user or a group exactly if it takes a word by which this one can be had.
 use Rattle.std.proofs.Common.{◌≡◌, ◌↔◌, List, [], Any, Contains, arith}
 use Rattle.rbac_terms.specs.Text.{Text}
 use Rattle.rbac_terms.specs.Principals.{Who}

@@ -1,4 +1,4 @@
--- How paths from somebody and ways to what is asked for agree.
+-- How the paths from a principal and the ways to a request agree.
 use Rattle.std.specs.Prelude.{◌≡◌, ◌↔◌, ◌⊎◌, ◌<◌, ℕ, List, Any, Contains}
 use Rattle.rbac_terms.specs.Principals.{Who}
 use Rattle.rbac_model.specs.Policies.{PolicyView}
@@ -7,15 +7,15 @@ use Rattle.rbac_paths.specs.Nodes.{Somebody}
 use Rattle.rbac_paths.specs.Paths.{PathView}
 use Rattle.rbac_paths.specs.WaysTo.{WayView}
 
--- after n steps somebody with these paths is allowed what is asked for: after none they are
--- themselves, and after more a node is that so many lead to
+-- the request is allowed after n steps: to the principal itself, if n is 0, or to a node that these
+-- paths list with n steps
 abbrev pub IsAllowedAfter : PolicyView → Who → AccessView → List PathView → ℕ → Type 0
 IsAllowedAfter p who asked paths n =
     ((n ≡ 0) × AllowsAccess p asked (Somebody who))
     ⊎ Any (λ x. (x.count ≡ n) × AllowsAccess p asked x.node) paths
 
--- somebody is listed among the ways exactly if they are allowed what is asked for, or a node of their
--- paths is; and with the fewest steps after which they are
+-- the ways list the principal exactly if the request is allowed to it, or its paths list a node
+-- that allows the request; the number of steps is the least after which the request is allowed
 pub record AgreeOn (p : PolicyView) (who : Who) (asked : AccessView) (paths : List PathView)
     (ways : List WayView) : Type 0 where
   pub listed : Any (λ x. x.node ≡ Somebody who) ways

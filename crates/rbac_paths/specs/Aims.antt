@@ -1,5 +1,4 @@
--- What the rules of a node are looked through for: to take over another node, or to be allowed what is
--- asked for.
+-- What a node may be able to do by its rules: take over another node, or allow a request.
 use Rattle.std.specs.Prelude.{Option}
 use Rattle.rbac_terms.specs.Text.{Text}
 use Rattle.rbac_terms.specs.Matching.{RuleAllows}
@@ -13,7 +12,7 @@ use Rattle.rbac_paths.specs.declared.aim.Aim.{Aim}
 use Rattle.rbac_paths.specs.declared.aim.Aim.TheVariants as of
 use Rattle.rbac_paths.specs.declared.steps.Step.{Step}
 
--- to take over a node by a step, or to be allowed what is asked for (own)
+-- an aim: to take over a node by a step, or to allow a request (own)
 pub data AimView : Type 0 where
   ToTakeOver : Step → NodeView → AimView
   ToBeAllowed : AccessView → AimView
@@ -23,17 +22,19 @@ abbrev pub aim_of : Aim → AimView
 aim_of (of.TakeOver rows node) = ToTakeOver rows.now (node_of node)
 aim_of (of.Access asked) = ToBeAllowed (access_of asked)
 
--- the rule lets it, where the rule counts
+-- a rule that counts in `home`, which is a namespace or the whole cluster, serves the aim: it
+-- allows a request of the step that takes over the node, or the request itself
 unfoldable pub Serves : AimView → Option Text → Rule → Type 0
 Serves (ToTakeOver step y) home rule = RuleTakes step home rule y
 Serves (ToBeAllowed asked) home rule = Live home asked.namespace asked.target
     × RuleAllows rule asked.verb asked.target
 
--- the grant lets somebody: its binding names them, and its rule lets it
+-- the grant serves the aim for a principal: its binding names the principal, and its rule serves
+-- the aim where the binding is
 abbrev pub GrantServes : AimView → Who → GrantView → Type 0
 GrantServes aim who g = BindingNames g.binding who × Serves aim g.binding.namespace g.rule.rule
 
--- the node can
+-- the node attains the aim: it can take over the other node by the step, or allows the request
 abbrev pub Attains : PolicyView → NodeView → AimView → Type 0
 Attains p x (ToTakeOver step y) = CanTakeOver p x step y
 Attains p x (ToBeAllowed asked) = AllowsAccess p asked x

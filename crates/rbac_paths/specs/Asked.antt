@@ -1,4 +1,4 @@
--- What the requests that take over a node ask.
+-- The namespace and the name in requests that take over a node.
 use Rattle.std.specs.Prelude.{◌≡◌, ◌↔◌, Any, Contains, List, Option, MatchOption}
 use Rattle.rbac_terms.specs.Text.{Text}
 use Rattle.rbac_terms.specs.Principals.{Who, AsUser, AsMember}
@@ -15,23 +15,23 @@ use Rattle.rbac_paths.specs.declared.table.Names.{Names}
 use Rattle.rbac_paths.specs.declared.steps.Step.{Step}
 use Rattle.rbac_paths.specs.declared.taking.Asked.{Asked}
 
--- the answer is the one namespace and the one name that are so, or nothing if none are
+-- the answer is the only namespace and name with the property, or nothing if none have it
 abbrev pub Asks : (Text → Text → Type 0) → Option Asked → Type 0
 Asks Is answer = MatchOption answer
     ((namespace own : Text) → ¬ Is namespace own)
     (λ a. (namespace own : Text) → Is namespace own
     ↔ ((namespace ≡ a.namespace.now) × (own ≡ a.own.now)))
 
--- who asks is a user
+-- the principal is a user
 abbrev pub IsAnyUser : Who → Type 0
 IsAnyUser (AsUser name given) = Unit {0}
 IsAnyUser (AsMember group) = ⊥
 
--- the rule's names match the object name of a row's request for what has that name
+-- the rule's object names match an object name in the requests of a row for a node with that name
 abbrev pub HasRowNameFor : Names → Text → Rule → Type 0
 HasRowNameFor names own rule = (name : Text) × IsNameAsked names own name × NameMatches rule.resource_names name
 
--- the rule allows some request of the row for what has that name
+-- the rule allows a request of the row for a node with that name
 pub record AllowsRowFor (r : StepRowView) (own : Text) (rule : Rule) : Type 0 where
   pub verb : Text
   pub text : Text
@@ -41,34 +41,36 @@ pub record AllowsRowFor (r : StepRowView) (own : Text) (rule : Rule) : Type 0 wh
   pub named : IsNameAsked r.names own name
   pub allows : RuleAllows rule verb (Resource r.group text name)
 
--- the holding counts where the row's requests are asked in that namespace, and allows some for what has
--- that name
+-- the holding counts for the row's requests in that namespace, and its rule allows one of them for
+-- a node with that name
 abbrev pub AllowsAsked : StepRowView → Text → Text → HoldingView → Type 0
 AllowsAsked r namespace own h =
     ((text name : Text) → Live h.home (asked_in r.counts namespace) (Resource r.group text name))
     × AllowsRowFor r own h.rule
 
--- a row, with what its requests that take over a node ask
+-- a row, with the namespace and the name in its requests that take over a node
 pub record AskedRowView : Type 0 where
   pub row : StepRowView
   pub namespace : Text
   pub own : Text
 
--- the holding allows some of these
+-- the holding allows one of these requests of the row
 abbrev pub AllowsAskedRow : HoldingView → AskedRowView → Type 0
 AllowsAskedRow h a = AllowsAsked a.row a.namespace a.own h
 
--- the holdings that allow some of the answer are those that take over y by the row; nothing, if none does
+-- the answer describes the requests of the row that take over y: a holding takes over y by the row
+-- exactly if it allows one of them; without an answer, no holding takes over y by the row
 abbrev pub RowAsks : StepRowView → NodeView → Option AskedRowView → Type 0
 RowAsks r y answer = MatchOption answer
     ((h : HoldingView) → ¬ RowTakes r h.home h.rule y)
     (λ a. (h : HoldingView) → AllowsAskedRow h a ↔ RowTakes r h.home h.rule y)
 
--- the holdings that allow some of these are those that take over y by some of the rows
+-- a holding takes over y by one of these rows exactly if it allows a request of one of the asked
+-- rows
 abbrev pub AreAskedFor : List StepRowView → NodeView → List AskedRowView → Type 0
 AreAskedFor rows y asked = (h : HoldingView) → Any (AllowsAskedRow h) asked
     ↔ Any (λ row. RowTakes row h.home h.rule y) rows
 
--- the holdings that allow some of these are those that take over y by the step
+-- a holding takes over y by the step exactly if it allows a request of one of the asked rows
 abbrev pub AreAskedBy : Step → NodeView → List AskedRowView → Type 0
 AreAskedBy step y asked = (h : HoldingView) → Any (AllowsAskedRow h) asked ↔ HoldingTakes step h y

@@ -1,4 +1,4 @@
--- While the powers of a step are looked for.
+-- What holds while the powers of a step are found, binding by binding.
 use Rattle.std.specs.Prelude.{◌≡◌, ℕ, ◌<◌, ◌⊎◌, List, Any, IsSome, Some, None, length, slice_get}
 use Rattle.std.specs.BTreeMap.{BTreeMap, get}
 use Rattle.rbac_terms.specs.Text.{Text, text_cmp}
@@ -11,11 +11,11 @@ use Rattle.rbac_paths.specs.Powers.{GivesStep, IsPower, PowerView, power_place}
 use Rattle.rbac_paths.specs.Powers.{who_and_where}
 use Rattle.rbac_paths.specs.declared.steps.Step.{Step}
 
--- powers, under who and where as they are printed
+-- powers, each under its who and where, as printed
 abbrev pub Found : Type 0
 Found = BTreeMap Text PowerView
 
--- a grant of the binding at that place
+-- the grant g has number n, and is a grant of the binding at that place
 abbrev pub IsGrantOf : PolicyView → ℕ → ℕ → GrantView → Type 0
 IsGrantOf p place n g = (slice_get p.grants n ≡ Some g) × IsOfBinding p n place
 
@@ -23,14 +23,16 @@ IsGrantOf p place n g = (slice_get p.grants n ≡ Some g) × IsOfBinding p n pla
 abbrev pub GivesNone : PolicyView → Step → ℕ → Type 0
 GivesNone p step place = (n : ℕ) (g : GrantView) → IsGrantOf p place n g → ¬ GivesStep step g
 
--- the first grant of the binding at that place that gives the step
+-- n is the number of the first grant that gives the step, among the grants of the binding at that
+-- place
 pub record IsFirstGiving (p : PolicyView) (step : Step) (place n : ℕ) : Type 0 where
   pub number : n < length p.grants
   pub of_binding : IsOfBinding p n place
   pub gives : (g : GrantView) → slice_get p.grants n ≡ Some g → GivesStep step g
   pub first : (k : ℕ) (g : GrantView) → k < n → IsGrantOf p place k g → ¬ GivesStep step g
 
--- a power of the grant's step, by the first of the subjects of its binding with the key
+-- x is a power that the grant g gives by the first subject of its binding with the key; t is its
+-- who and where, as printed
 pub record IsBySubject (step : Step) (g : GrantView) (t : Text) (x : PowerView) : Type 0 where
   pub step_is : x.step ≡ step
   pub grant_is : x.grant ≡ g
@@ -39,8 +41,8 @@ pub record IsBySubject (step : Step) (g : GrantView) (t : Text) (x : PowerView) 
       × IsFirstAt
       (λ s. IsSubjectKey s g.binding.namespace x.who) g.binding.subjects x.subject_place s
 
--- new has what old has, and the grant's power for each key of these of the subjects of its binding,
--- unless something was there already
+-- new has what old has, and a power by the grant g for each key of these subjects of its binding,
+-- unless old has a power under the same text
 pub record AddsPowers (step : Step) (g : GrantView) (subjects : List Subject)
     (old new : Found) : Type 0 where
   pub kept : (t : Text) (y : PowerView) → get text_cmp old t ≡ Some y → get text_cmp new t ≡ Some y
@@ -49,7 +51,8 @@ pub record AddsPowers (step : Step) (g : GrantView) (subjects : List Subject)
   pub only : (t : Text) (y : PowerView) → get text_cmp new t ≡ Some y → (get text_cmp old t ≡ Some y)
       ⊎ ((get text_cmp old t ≡ None) × IsBySubject step g t y)
 
--- exactly the powers of the step by grants of the first `count` bindings
+-- the map has only powers of the step, and has one for each who and where to which a grant of the
+-- first `count` bindings gives the step
 pub record FindsPowers (p : PolicyView) (step : Step) (count : ℕ) (found : Found) : Type 0 where
   pub has : (place n : ℕ) (g : GrantView) (key : Text) → place < count → IsGrantOf p place n g
       → GivesStep step g → HasKey g.binding key
@@ -57,8 +60,8 @@ pub record FindsPowers (p : PolicyView) (step : Step) (count : ℕ) (found : Fou
   pub only : (t : Text) (y : PowerView) → get text_cmp found t ≡ Some y
       → (t ≡ power_place y) × (y.step ≡ step) × IsPower p y
 
--- each grant that gives the step has its powers among these: one for each key of a subject of its
--- binding, in the namespace of the binding, or, if that has none, in the whole cluster
+-- for each grant that gives the step, and each key of a subject of its binding, there is a power of
+-- the step in the binding's namespace, or in the whole cluster if the binding has none
 abbrev pub AreWithGrants : PolicyView → Step → List PowerView → Type 0
 AreWithGrants p step xs = (n : ℕ) (g : GrantView) (key : Text) → slice_get p.grants n ≡ Some g
     → GivesStep step g → HasKey g.binding key

@@ -1,4 +1,4 @@
--- What nodes have, and what that allows them.
+-- Which rules nodes have, and which requests nodes allow.
 use Rattle.std.specs.Prelude.{◌≡◌, ◌↔◌, List, [], ◌∷◌, Option, Some, Any, Contains, codes}
 use Rattle.rbac_terms.specs.Text.{Text}
 use Rattle.rbac_terms.specs.Targets.{What}
@@ -8,13 +8,15 @@ use Rattle.rbac_model.specs.Policies.{Allows, AreRulesOf, BindingNames, Held, Li
 use Rattle.rbac_model.specs.Policies.{InRole, InClusterRole, SourcedRule}
 use Rattle.rbac_paths.specs.Nodes.{NodeView, Somebody, ClusterRoleIn, OwnRole, EverythingIn}
 
--- some rule of the role, of those that it gathers if it is aggregated, allows the verb on the target
+-- a rule of the role allows the verb on the target; an aggregated role has the rules that it
+-- gathers
 abbrev pub RoleAllows : Held → Source → Text → What → Type 0
 RoleAllows h role verb t = (rules : List SourcedRule) × AreRulesOf h role rules
     × Any (λ r. RuleAllows r.rule verb t) rules
 
--- a node allows a request (own): somebody, what they are allowed; a role, what a rule of it allows where
--- the role is bound; everything, whatever is asked where it is
+-- a node allows a request (own): a user or a group, if the request is allowed to it; a role, if one
+-- of its rules allows the request, where the role is bound; everything in a scope, if the request
+-- is made there
 abbrev pub NodeAllows : PolicyView → NodeView → Text → Text → What → Type 0
 NodeAllows p (Somebody who) namespace verb t = Allows p.held who namespace verb t
 NodeAllows p (ClusterRoleIn role scope) namespace verb t = Live scope namespace t
@@ -23,12 +25,13 @@ NodeAllows p (OwnRole role) namespace verb t = Live (Some role.namespace) namesp
     × RoleAllows p.held (InRole role) verb t
 NodeAllows p (EverythingIn scope) namespace verb t = Live scope namespace t
 
--- a rule that a node has, and where it counts: in a namespace, or, if there is none, in the whole cluster
+-- a holding: a rule that a node has, and where the rule counts, which is the namespace `home`, or
+-- the whole cluster if there is none
 pub record HoldingView : Type 0 where
   pub home : Option Text
   pub rule : Rule
 
--- the rule that allows everything
+-- the rule that allows every request
 abbrev pub rule_of_all : Rule
 rule_of_all = record {
   verbs = codes "*" ∷ [];
@@ -38,12 +41,12 @@ rule_of_all = record {
   urls = codes "*" ∷ [];
 }
 
--- the role has that rule, or, if it is aggregated, gathers it
+-- the role has this rule; an aggregated role has the rules that it gathers
 abbrev pub HasRoleRule : Held → Source → Rule → Type 0
 HasRoleRule h role rule = (rules : List SourcedRule) × AreRulesOf h role rules
     × Any (λ r. r.rule ≡ rule) rules
 
--- a node has a rule that counts there
+-- the node has this holding
 abbrev pub IsHolding : PolicyView → NodeView → HoldingView → Type 0
 IsHolding p (Somebody who) h = Any (λ g. BindingNames g.binding who × (g.binding.namespace ≡ h.home)
     × (g.rule.rule ≡ h.rule)) p.grants
@@ -53,11 +56,11 @@ IsHolding p (OwnRole role) h = (Some role.namespace ≡ h.home)
     × HasRoleRule p.held (InRole role) h.rule
 IsHolding p (EverythingIn scope) h = (scope ≡ h.home) × (rule_of_all ≡ h.rule)
 
--- exactly what the node has
+-- exactly the holdings of the node
 abbrev pub AreHoldings : PolicyView → NodeView → List HoldingView → Type 0
 AreHoldings p x hs = (h : HoldingView) → Contains hs h ↔ IsHolding p x h
 
--- what a node has decides what it allows
+-- the holdings of a node decide which requests it allows
 abbrev pub AllowBy : PolicyView → NodeView → Type 0
 AllowBy p x = (namespace verb : Text) (t : What) → NodeAllows p x namespace verb t
     ↔ ((h : HoldingView) × IsHolding p x h × Live h.home namespace t × RuleAllows h.rule verb t)

@@ -1,4 +1,4 @@
--- Whom and what one can take over.
+-- Nodes: whom and what one can take over.
 use Rattle.std.specs.Prelude.{◌≡◌, Option}
 use Rattle.std.specs.Option.{option_copied}
 use Rattle.rbac_terms.specs.Text.{Text}
@@ -8,8 +8,9 @@ use Rattle.rbac_terms.specs.declared.granting.Role.{Role}
 use Rattle.rbac_paths.specs.declared.node.Node.{Node}
 use Rattle.rbac_paths.specs.declared.node.Node.TheVariants as of
 
--- somebody; a cluster role that is bound in a namespace, or, if there is none, in the whole cluster; a
--- role that is bound in its namespace; or everything in a namespace or in the whole cluster (own)
+-- a node (own): a user or a group; a cluster role, bound in a namespace, or in the whole cluster if
+-- there is none; a Role, bound in its own namespace; or everything in a namespace, or in the whole
+-- cluster if there is none
 pub data NodeView : Type 0 where
   Somebody : Who → NodeView
   ClusterRoleIn : ClusterRole → Option Text → NodeView
@@ -23,8 +24,8 @@ node_of (of.ClusterRole role scope) = ClusterRoleIn role.now (option_copied scop
 node_of (of.Role role) = OwnRole role.now
 node_of (of.Everything scope) = EverythingIn (option_copied scope)
 
--- who asks is the service account of that name in that namespace (Using RBAC Authorization, Referring
--- to subjects)
+-- the principal is the user of the service account with that namespace and name (Using RBAC
+-- Authorization, Referring to subjects)
 abbrev pub IsAccountNamed : Who → Text → Text → Type 0
 IsAccountNamed (AsUser user given) namespace name =
     (user ≡ account_user namespace name) × IsPart namespace × IsPart name

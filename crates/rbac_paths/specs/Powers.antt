@@ -13,31 +13,32 @@ use Rattle.rbac_text.specs.Row.{field_and_tab}
 use Rattle.rbac_paths.specs.Steps.{AllowsIn, steps, table}
 use Rattle.rbac_paths.specs.declared.steps.Step.{Step}
 
--- a step that somebody with a key can take, by a grant and a subject of its binding: in the
--- namespace of the binding, or, if that has none, in the whole cluster
+-- a step that whoever has the key can take, by a grant and a subject of the grant's binding; in the
+-- namespace of this binding, or in the whole cluster if the binding has none
 pub record PowerView : Type 0 where
   pub step : Step
   pub who : Text
   pub grant : GrantView
   pub subject_place : ℕ
 
--- the rule allows some request of the step where a binding in that namespace, or in none, is live
+-- the rule, granted in that namespace, or in the whole cluster if there is none, allows a request
+-- of the step
 abbrev pub AllowsStep : Step → Option Text → Rule → Type 0
 AllowsStep step namespace rule =
     Any (λ row. (row.step ≡ step) × AllowsIn namespace rule row) table
 
--- the grant gives its subjects the step
+-- the grant gives the step to the subjects of its binding
 abbrev pub GivesStep : Step → GrantView → Type 0
 GivesStep step g = AllowsStep step g.binding.namespace g.rule.rule
 
--- the grant gives whoever has the key the step, in that namespace, or, if there is none, in the
--- whole cluster
+-- the grant gives the step to whoever has the key, in that namespace, or in the whole cluster if
+-- there is none
 abbrev pub GivesThere : Step → Text → Option Text → GrantView → Type 0
 GivesThere step key namespace g = (g.binding.namespace ≡ namespace) × HasKey g.binding key
     × GivesStep step g
 
--- the grant is the first that gives whoever has the key the step there, by the first subject of its
--- binding with the key (own)
+-- x has the first grant that gives the step to whoever has the key there, and the first subject of
+-- the grant's binding with the key (own)
 pub record IsPower (p : PolicyView) (x : PowerView) : Type 0 where
   pub grant : (no : ℕ)
       × IsFirstAt (GivesThere x.step x.who x.grant.binding.namespace) p.grants no x.grant
@@ -46,14 +47,15 @@ pub record IsPower (p : PolicyView) (x : PowerView) : Type 0 where
       (λ s. IsSubjectKey s x.grant.binding.namespace x.who) x.grant.binding.subjects
       x.subject_place s
 
--- who and where, as they are printed, each with the tab after it (own)
+-- who and where, as printed, each with a tab after it (own)
 abbrev pub who_and_where : Text → Option Text → Text
 who_and_where who namespace = field_and_tab who ++ choice_and_tab namespace
 
+-- who and where of a power, as printed, each with a tab after it
 abbrev pub power_place : PowerView → Text
 power_place x = who_and_where x.who x.grant.binding.namespace
 
--- all powers of a step, in order of who and where as printed (own)
+-- all powers of a step, in order of who and where, byte by byte as printed (own)
 pub record ArePowersOf (p : PolicyView) (step : Step) (xs : List PowerView) : Type 0 where
   pub ordered : AllPairs (λ x y. text_cmp (power_place x) (power_place y) ≡ Less) xs
   pub exact : (x : PowerView) → Contains xs x ↔ ((x.step ≡ step) × IsPower p x)
@@ -64,6 +66,7 @@ ArePowersIn p [] xs = xs ≡ []
 ArePowersIn p (step ∷ steps) xs = (own : List PowerView) × (rest : List PowerView)
     × ArePowersOf p step own × ArePowersIn p steps rest × (xs ≡ own ++ rest)
 
--- all powers, in order of the table of steps, and then of who and where as printed (own)
+-- all powers, in order of the table of steps, and then of who and where, byte by byte as printed
+-- (own)
 abbrev pub ArePowers : PolicyView → List PowerView → Type 0
 ArePowers p xs = ArePowersIn p steps xs

@@ -1,4 +1,4 @@
--- Why a node can take over another, or is allowed what is asked for.
+-- Reasons: the grant or the rule by which a node takes over another node, or allows a request.
 use Rattle.std.specs.Prelude.{◌≡◌, ℕ, ◌<◌, ◌≤◌, List, Option, Some, MatchOption, slice_get}
 use Rattle.rbac_terms.specs.Text.{Text}
 use Rattle.rbac_terms.specs.Granting.{Names}
@@ -13,8 +13,8 @@ use Rattle.rbac_paths.specs.Nodes.{NodeView, Somebody, ClusterRoleIn, OwnRole, E
 use Rattle.rbac_paths.specs.declared.reason.Reason.{Reason}
 use Rattle.rbac_paths.specs.declared.reason.Reason.TheVariants as by
 
--- by a grant, and a subject of its binding; by a rule, told by the role where it is written and its
--- place there; or by having everything (own)
+-- a reason (own): a grant, and the place of a subject in its binding; a rule, by the role where it
+-- is written and its place there; or that everything in a scope allows each request there
 pub data ReasonView : Type 0 where
   ByGrant : GrantView → ℕ → ReasonView
   ByRule : Source → ℕ → ReasonView
@@ -26,19 +26,20 @@ reason_view (by.Grant grant subject) = ByGrant (grant_of grant) subject
 reason_view (by.Rule source place) = ByRule (source_of source) place
 reason_view by.All = ByAll
 
--- the first subject of the grant's binding that names somebody is at that place
+-- the first subject of the grant's binding that names the principal is at that place
 abbrev pub IsNamedAt : GrantView → Who → ℕ → Type 0
 IsNamedAt g who at = (s : Subject)
     × IsFirstAt (λ s. Names s g.binding.namespace who) g.binding.subjects at s
 
--- the rule at that place in that role is the first of the role's rules, of those that it gathers if it
--- is aggregated, that lets it where it is bound
+-- the rule at `place` in `source` is the first rule of the role that serves the aim if it counts in
+-- `home`; an aggregated role has the rules that it gathers
 abbrev pub IsFirstRule : Held → Source → Option Text → AimView → Source → ℕ → Type 0
 IsFirstRule h role home aim source place = (rules : List SourcedRule) × AreRulesOf h role rules
     × ((n : ℕ) × (r : SourcedRule) × IsFirstAt (λ r. Serves aim home r.rule) rules n r
     × (r.source ≡ source) × (r.place ≡ place))
 
--- why x can: somebody by the first grant that lets them, a role by its first rule that lets it (own)
+-- why x attains the aim (own): a user or a group, by the first grant that serves the aim for it; a
+-- role, by its first rule that serves the aim where the role is bound
 abbrev pub IsReason : PolicyView → NodeView → AimView → ReasonView → Type 0
 IsReason p (Somebody who) aim (ByGrant g at) = IsNamedAt g who at
     × ((n : ℕ) × IsFirstAt (GrantServes aim who) p.grants n g)
@@ -49,22 +50,22 @@ IsReason p (OwnRole role) aim (ByRule source place) =
 IsReason p (EverythingIn scope) aim ByAll = Unit {0}
 IsReason p _ aim _ = ⊥
 
--- no grant before that number lets somebody
+-- no grant with a number below `count` serves the aim for the principal
 abbrev pub NoneBefore : PolicyView → AimView → Who → ℕ → Type 0
 NoneBefore p aim who count = (k : ℕ) (g : GrantView) → k < count → slice_get p.grants k ≡ Some g
     → ¬ GrantServes aim who g
 
--- the first grant that lets somebody, if there is one
+-- the number of the first grant that serves the aim for the principal, if there is one
 abbrev pub AnswersFirstServing : PolicyView → AimView → Who → Option ℕ → Type 0
 AnswersFirstServing p aim who o = MatchOption o ((count : ℕ) → NoneBefore p aim who count)
     (λ n. (g : GrantView) × IsFirstAt (GrantServes aim who) p.grants n g)
 
--- no rule of the grants numbered from `start` up to `end` lets it where the grant is live
+-- no rule of the grants `start..end` serves the aim where the grant's binding is
 abbrev pub NoneServesIn : PolicyView → AimView → ℕ → ℕ → Type 0
 NoneServesIn p aim start end = (k : ℕ) (g : GrantView) → start ≤ k → k < end
     → slice_get p.grants k ≡ Some g → ¬ Serves aim g.binding.namespace g.rule.rule
 
--- the first of these grants whose rule does, if there is one
+-- the number of the first of these grants whose rule serves the aim, if there is one
 abbrev pub AnswersFirstIn : PolicyView → AimView → ℕ → ℕ → Option ℕ → Type 0
 AnswersFirstIn p aim start end o = MatchOption o (NoneServesIn p aim start end)
     (λ n. (g : GrantView) × (start ≤ n) × (n < end) × (slice_get p.grants n ≡ Some g)

@@ -1,4 +1,4 @@
--- The steps by which one takes over another (Role Based Access Control Good Practices).
+-- The steps by which one node takes over another (Role Based Access Control Good Practices).
 use Rattle.std.specs.Prelude.{◌≡◌, ◌≢◌, List, [], ◌∷◌, codes, Contains, Option, Some, None}
 use Rattle.rbac_terms.specs.Text.{Text}
 use Rattle.rbac_terms.specs.Targets.{Resource}
@@ -33,8 +33,9 @@ step_word Escalate = codes "escalate"
 step_word Certificates = codes "certificates"
 step_word Webhooks = codes "webhooks"
 
--- a row of the table: each of some verbs on each of some resources of an API group, with which object
--- name, in the whole cluster alone or also in a namespace, and what it takes over
+-- a row of the table: its requests are each of its verbs on each of its resources in its API group;
+-- it also says which object names they have, whether they count only in the whole cluster or also
+-- in a namespace, and what they take over
 pub record StepRowView : Type 0 where
   pub step : Step
   pub names : Names
@@ -44,6 +45,7 @@ pub record StepRowView : Type 0 where
   pub resources : List Text
   pub over : Over
 
+-- a row of the table, from its parts
 abbrev pub row : Step → Names → Counts → List Text → Text → List Text → Over → StepRowView
 row step names counts verbs group resources over = record {
   step = step;
@@ -55,10 +57,11 @@ row step names counts verbs group resources over = record {
   over = over;
 }
 
--- the core API group, and that of roles and bindings
+-- the core API group
 abbrev core : Text
 core = []
 
+-- the API group of roles and bindings
 abbrev rbac : Text
 rbac = codes "rbac.authorization.k8s.io"
 
@@ -66,7 +69,8 @@ rbac = codes "rbac.authorization.k8s.io"
 abbrev write : List Text
 write = codes "create" ∷ codes "update" ∷ codes "patch" ∷ []
 
--- the table
+-- the table of steps: the Kubernetes page names the steps (Role Based Access Control Good
+-- Practices), and this project chooses their requests (own)
 abbrev pub table : List StepRowView
 table =
     row Impersonate names.Own counted.ClusterWide (codes "impersonate" ∷ []) core
@@ -114,13 +118,12 @@ table =
     over.Everything
     ∷ []
 
--- where a request of a row is asked: in no namespace, if it counts in the whole cluster alone
+-- the namespace of a row's request: the empty one, if the row counts only in the whole cluster
 abbrev pub asked_in : Counts → Text → Text
 asked_in counted.ClusterWide namespace = []
 asked_in counted.InNamespaces namespace = namespace
 
--- the object name of a request of the row, where what is taken over has a name of its own: none, that
--- name, or any
+-- the object name of a row's request for a node with its own name: no name, that name, or any name
 abbrev pub IsNameAsked : Names → Text → Text → Type 0
 IsNameAsked names.None own name = name ≡ []
 IsNameAsked names.Own own name = name ≡ own
@@ -130,7 +133,7 @@ IsNameAsked names.Any own name = Unit {0}
 abbrev pub CanBeNamed : Names → Text → Type 0
 CanBeNamed names name = (own : Text) × IsNameAsked names own name
 
--- the rule allows some request of the row
+-- the rule allows a request of the row
 pub record AllowsRow (r : StepRowView) (rule : Rule) : Type 0 where
   pub verb : Text
   pub text : Text
@@ -140,12 +143,14 @@ pub record AllowsRow (r : StepRowView) (rule : Rule) : Type 0 where
   pub named : CanBeNamed r.names name
   pub allows : RuleAllows rule verb (Resource r.group text name)
 
--- the row counts where a binding in that namespace, or in none, is live: in the whole cluster each
--- row does; in the empty namespace no binding is live
+-- the row counts for a binding in that namespace, or for a ClusterRoleBinding if there is none:
+-- every row counts for a ClusterRoleBinding, and none in the empty namespace, where no binding is
+-- live
 abbrev pub CountsIn : StepRowView → Option Text → Type 0
 CountsIn r None = Unit {0}
 CountsIn r (Some namespace) = (r.counts ≡ counted.InNamespaces) × (namespace ≢ [])
 
--- the rule allows some request of the row where a binding in that namespace, or in none, is live
+-- the rule, granted in that namespace, or in the whole cluster if there is none, allows a request
+-- of the row
 abbrev pub AllowsIn : Option Text → Rule → StepRowView → Type 0
 AllowsIn namespace rule row = CountsIn row namespace × AllowsRow row rule

@@ -9,35 +9,35 @@ use Rattle.rbac_paths.specs.Steps.{StepRowView, table}
 use Rattle.rbac_paths.specs.declared.steps.Step.{Step}
 use Rattle.rbac_paths.specs.declared.takeover.Takeover.{Takeover}
 
--- what is taken over by the row, and where and for which names that counts
+-- what the row takes over, where its requests count, and which object names they have
 abbrev pub takeover_of : StepRowView → Takeover
 takeover_of row = record { names = row.names; counts = row.counts; over = row.over }
 
--- the rule matches a row of the step by which that is taken over
+-- the rule matches a row of the step that has this takeover
 unfoldable pub HasTakeover : Rule → Takeover → Step → Type 0
 HasTakeover rule t step = Any
     (λ row. (row.step ≡ step) × ((takeover_of row ≡ t) × MatchesRow row rule)) table
 
--- exactly what is taken over by the rows of these steps that the rule matches
+-- exactly the takeovers of the rows of these steps that the rule matches
 abbrev pub AreTakeovers : List Step → Rule → List Takeover → Type 0
 AreTakeovers steps rule ts = (t : Takeover) → Contains ts t ↔ Any (HasTakeover rule t) steps
 
--- the same of each of these rules
+-- for each of these rules, exactly its takeovers by these steps
 abbrev pub AreTakeoversOfEach : List Step → List Rule → List (List Takeover) → Type 0
 AreTakeoversOfEach steps rules all = (i : ℕ) (rule : Rule) → slice_get rules i ≡ Some rule
     → AreTakeovers steps rule (slice_index_or all i [])
 
--- for each role of each kind, what each of its rules takes over
+-- for each Role and each cluster role, what each of its rules takes over
 pub record TakeoversView : Type 0 where
   pub roles : List (List (List Takeover))
   pub cluster_roles : List (List (List Takeover))
 
--- what each rule of the role at that place takes over; nothing past the last role
+-- what each rule of the role at that place takes over; empty past the last role
 abbrev pub takeovers_at : TakeoversView → RolePlace → List (List Takeover)
 takeovers_at all (RoleAt at) = slice_index_or all.roles at []
 takeovers_at all (ClusterRoleAt at) = slice_index_or all.cluster_roles at []
 
--- exactly what each rule of each role takes over by these steps
+-- for each rule of each role that is held, exactly its takeovers by these steps
 abbrev pub HaveTakeovers : Held → List Step → TakeoversView → Type 0
 HaveTakeovers h steps all = (role : RolePlace) (i : ℕ) (r : SourcedRule)
     → sourced_at h role i ≡ Some r

@@ -16,17 +16,18 @@ use Rattle.rbac_paths.specs.declared.table.Counts.TheVariants as counted
 use Rattle.rbac_paths.specs.declared.table.Over.{Over}
 use Rattle.rbac_paths.specs.declared.table.Over.TheVariants as over
 
--- the namespace that stands for a scope; the empty one stands for the whole cluster
+-- the namespace of a scope; empty for the whole cluster
 abbrev pub scope_namespace : Option Text → Text
 scope_namespace None = []
 scope_namespace (Some namespace) = namespace
 
--- what counts in the whole cluster alone takes over everything there, and nothing of a namespace
+-- a row that counts only in the whole cluster takes over everything there, and nothing in a
+-- namespace
 abbrev pub IsInReach : Counts → Option Text → Type 0
 IsInReach counted.ClusterWide scope = scope ≡ None
 IsInReach counted.InNamespaces scope = Unit {0}
 
--- the row takes over the node by requests in that namespace for what has that name
+-- a row takes over the node by requests in that namespace, for a node with that name (own)
 abbrev pub IsOver : Over → Counts → NodeView → Text → Text → Type 0
 IsOver over.Users counts (Somebody (AsUser user given)) namespace name = (namespace ≡ [])
     × (name ≡ user) × ((n m : Text) → ¬ IsAccountNamed (AsUser user given) n m)
@@ -41,8 +42,8 @@ IsOver over.Roles counts (OwnRole role) namespace name = (namespace ≡ role.nam
     × (name ≡ role.name)
 IsOver _ _ _ namespace name = ⊥
 
--- a rule that counts in that namespace, or, if there is none, in the whole cluster, allows some request
--- of the row that takes over the node
+-- a rule that counts in `home`, which is a namespace or the whole cluster, allows a request of the
+-- row that takes over the node
 pub record RowTakes (row : StepRowView) (home : Option Text) (rule : Rule) (y : NodeView) : Type 0 where
   pub namespace : Text
   pub own : Text
@@ -56,11 +57,11 @@ pub record RowTakes (row : StepRowView) (home : Option Text) (rule : Rule) (y : 
   pub live : Live home (asked_in row.counts namespace) (Resource row.group text name)
   pub allows : RuleAllows rule verb (Resource row.group text name)
 
--- such a rule allows some request of the step that takes over the node
+-- a rule that counts in `home` allows a request of the step that takes over the node
 abbrev pub RuleTakes : Step → Option Text → Rule → NodeView → Type 0
 RuleTakes step home rule y = Any (λ row. (row.step ≡ step) × RowTakes row home rule y) table
 
--- x allows a request of the step that takes over y
+-- x can take over y by the step: x allows a request of the step that takes over y (own)
 pub record CanTakeOver (p : PolicyView) (x : NodeView) (step : Step) (y : NodeView) : Type 0 where
   pub row : StepRowView
   pub namespace : Text

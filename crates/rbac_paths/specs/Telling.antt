@@ -1,4 +1,4 @@
--- What powers tell of requests.
+-- The powers list exactly which principals can take which steps.
 use Rattle.std.specs.Prelude.{◌≡◌, ◌↔◌, List, Option, Some, None, Any, Contains}
 use Rattle.rbac_terms.specs.Text.{Text}
 use Rattle.rbac_terms.specs.Targets.{Resource}
@@ -9,8 +9,8 @@ use Rattle.rbac_paths.specs.Powers.{PowerView}
 use Rattle.rbac_paths.specs.Steps.{CanBeNamed, StepRowView, asked_in, table}
 use Rattle.rbac_paths.specs.declared.steps.Step.{Step}
 
--- somebody is allowed some request of the step in that namespace, or, if it is the empty one, in the
--- whole cluster
+-- a request of the step is allowed to the principal in that namespace, or in the whole cluster if
+-- that is the empty namespace
 pub record CanTake (p : PolicyView) (who : Who) (step : Step) (namespace : Text) : Type 0 where
   pub row : StepRowView
   pub verb : Text
@@ -23,13 +23,15 @@ pub record CanTake (p : PolicyView) (who : Who) (step : Step) (namespace : Text)
   pub named : CanBeNamed row.names name
   pub allowed : Allows p.held who (asked_in row.counts namespace) verb (Resource row.group text name)
 
--- what holds where a binding of that namespace, or of none, is live also holds there
+-- a power by a ClusterRoleBinding also holds in each namespace, a power by a RoleBinding only in
+-- the namespace of this binding
 abbrev pub AlsoHoldsIn : Option Text → Text → Type 0
 AlsoHoldsIn None namespace = Unit {0}
 AlsoHoldsIn (Some own) namespace = own ≡ namespace
 
--- somebody can take a step in a namespace, or, if it is the empty one, in the whole cluster, exactly
--- if a power of the step holds there whose key is theirs or that of one of their groups
+-- a principal can take a step in a namespace, or in the whole cluster if that is the empty one,
+-- exactly if a power of the step holds there whose key is the principal's or that of one of its
+-- groups
 abbrev pub TellAll : PolicyView → List PowerView → Type 0
 TellAll p xs = (who : Who) (step : Step) (namespace : Text)
     → CanTake p who step namespace

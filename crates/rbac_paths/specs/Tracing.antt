@@ -1,4 +1,5 @@
--- While paths are told by where their nodes are on shortest ways through the graph of nodes.
+-- What holds while paths are listed, by where their nodes are on shortest ways through the graph of
+-- nodes.
 use Rattle.std.specs.Prelude.{◌≡◌, ◌≢◌, ◌⊎◌, ℕ, List, Option, Some, None, AllPairs, Any, Contains}
 use Rattle.std.specs.Prelude.{slice_get, slice_index_or}
 use Rattle.rbac_terms.specs.Principals.{Who, who_key}
@@ -12,36 +13,36 @@ use Rattle.rbac_paths.specs.TakingOver.{TakesOver}
 use Rattle.rbac_paths.specs.Told.{IsFirstTold}
 use Rattle.rbac_paths.specs.declared.steps.Step.{Step}
 
--- the node is somebody with that one's key
+-- the node is a user or a group with the key of this principal
 abbrev pub HasKeyOf : Who → NodeView → Type 0
 HasKeyOf who (Somebody other) = who_key other ≡ who_key who
 HasKeyOf who (ClusterRoleIn role scope) = ⊥
 HasKeyOf who (OwnRole role) = ⊥
 HasKeyOf who (EverythingIn scope) = ⊥
 
--- a node of this kind is at the place
+-- the node at that place has the property
 abbrev pub IsAt : (NodeView → Type 0) → List NodeView → ℕ → Type 0
 IsAt Is ys j = (y : NodeView) × (slice_get ys j ≡ Some y) × Is y
 
--- a node with that one's key is at the place
+-- the node at that place is a user or a group with the key of this principal
 abbrev pub HasKeyAt : List NodeView → Who → ℕ → Type 0
 HasKeyAt ys who j = IsAt (HasKeyOf who) ys j
 
--- x is at one place, y at the other, and x takes over y
+-- the node at place i takes over the node at place j
 abbrev pub TakesAt : PolicyView → List Step → List NodeView → ℕ → ℕ → Type 0
 TakesAt p steps ys i j = (x y : NodeView) × (slice_get ys i ≡ Some x) × (slice_get ys j ≡ Some y)
     × TakesOver p steps x y
 
--- each node that edges lead to is taken over by the one before it
+-- each node to which a way of one edge or more leads is taken over by the node before it on the way
 abbrev pub AreLinked : PolicyView → List Step → List NodeView → List (Option Stop) → Type 0
 AreLinked p steps ys stops = (j : ℕ) (s : Stop) → slice_index_or stops j None ≡ Some s
     → s.edges ≢ 0 → TakesAt p steps ys s.before j
 
--- no edge leads to the place: no way does, or one starts there
+-- no edge leads to place j: no way leads there, or a way starts there
 abbrev pub IsUnled : List (Option Stop) → ℕ → Type 0
 IsUnled stops j = (s : Stop) → slice_index_or stops j None ≡ Some s → s.edges ≡ 0
 
--- the path to the node at the place, as the place's stop has it
+-- x is the path to the node at place j, by the stop of this place
 pub record IsPathAt (p : PolicyView) (steps : List Step) (ys : List NodeView)
     (stops : List (Option Stop)) (j : ℕ) (x : PathView) : Type 0 where
   pub stop : Stop
@@ -53,14 +54,14 @@ pub record IsPathAt (p : PolicyView) (steps : List Step) (ys : List NodeView)
   pub step : IsFirstTold p steps x.before x.node x.step
   pub reason : IsReason p x.before (ToTakeOver x.step x.node) x.reason
 
--- what is told at these places, but for those at which nothing is, in order
+-- what is listed at these places, in order; at a place that is passed, nothing needs to be listed
 pub record AreToldAt {X : Type 0} (IsAt : ℕ → X → Type 0) (IsPassed : ℕ → Type 0)
     (ComesBefore : X → X → Type 0) (places : List ℕ) (xs : List X) : Type 0 where
   pub each : (x : X) → Contains xs x → (j : ℕ) × Contains places j × IsAt j x
   pub has : (j : ℕ) → Contains places j → IsPassed j ⊎ Any (IsAt j) xs
   pub ordered : AllPairs ComesBefore xs
 
--- the paths to the nodes at these places, but for those that no edge leads to, in order
+-- the paths to the nodes at these places, in order; a node to which no edge leads needs none
 abbrev pub ArePathsAt : PolicyView → List Step → List NodeView → List (Option Stop) → List ℕ
     → List PathView → Type 0
 ArePathsAt p steps ys stops places xs =

@@ -7,13 +7,13 @@ use Rattle.rbac_paths.specs.PathLines.{reason_line}
 use Rattle.rbac_paths.specs.Steps.{step_word}
 use Rattle.rbac_paths.specs.WaysTo.{NextView, WayView}
 
--- the node that the first step leads to, and the step; if there is none, no node and no step
+-- the node to which the first step leads, and the step; three empty fields if there is no step
 abbrev pub next_text : Option NextView → Text
 next_text None = field_and_tab [] ++ field_and_tab [] ++ field_and_tab []
 next_text (Some next) = node_text next.node ++ field_and_tab (step_word next.step)
 
--- the line of a way: how many steps, the node, the node that the first of them leads to, that step, and why
--- it is one, or why the node itself allows what is asked for
+-- the line of a way: the number of steps, the node, the node to which the first step leads, this
+-- step, and the reason for it, or the reason why the node itself allows the request
 abbrev pub way_text : WayView → Text
 way_text x = decimal x.count ++ tab ∷ node_text x.node ++ next_text x.next
     ++ reason_line x.node x.reason

@@ -1,4 +1,4 @@
--- The ways from whom and what somebody comes to, to what allows what is asked for.
+-- The ways to a request: from each node that a user or a group comes to, to a node that allows it.
 use Rattle.std.specs.Prelude.{◌≡◌, ◌↔◌, ◌+◌, ℕ, List, Option, All, AllPairs, Any, Contains, MatchOption}
 use Rattle.rbac_terms.specs.Principals.{Who}
 use Rattle.rbac_model.specs.Policies.{PolicyView}
@@ -10,39 +10,40 @@ use Rattle.rbac_paths.specs.Reasons.{IsReason, ReasonView}
 use Rattle.rbac_paths.specs.Told.{IsFirstTold}
 use Rattle.rbac_paths.specs.declared.steps.Step.{Step}
 
--- one of these users and groups
+-- the node is one of these users and groups
 abbrev pub IsPrincipal : List Who → NodeView → Type 0
 IsPrincipal principals y = (who : Who) × Contains principals who × (y ≡ Somebody who)
 
--- steps lead to y from one of the users and groups, or it is one
+-- y is one of the users and groups, or steps lead to y from one of them
 abbrev pub IsComeTo : PolicyView → List Who → List Step → NodeView → Type 0
 IsComeTo p principals steps y =
     (n : ℕ) × LeadsTo (GoesTo p principals steps) (IsPrincipal principals) n y
 
--- one of these steps goes from x to y, seen from y
+-- one of these steps goes from x to y, with the two nodes in turned order
 abbrev pub GoesBack : PolicyView → List Who → List Step → NodeView → NodeView → Type 0
 GoesBack p principals steps y x = GoesTo p principals steps x y
 
--- n steps lead from x to a node that allows what is asked for
+-- n steps lead from x to a node that allows the request
 abbrev pub StepsLeadOn : PolicyView → List Who → List Step → AccessView → ℕ → NodeView → Type 0
 StepsLeadOn p principals steps asked n x =
     LeadsTo (GoesBack p principals steps) (AllowsAccess p asked) n x
 
--- the first step of a way: the node that it leads to, and the step
+-- the first step of a way: the node to which it leads, and the step
 pub record NextView : Type 0 where
   pub node : NodeView
   pub step : Step
 
--- a node from which steps lead to one that allows what is asked for: how many steps, the first of them,
--- if there is one, and why that is one, or, if there is none, why the node itself allows it
+-- a way, by its start: the number of steps, the node at its start, the first step, if there is one,
+-- and the reason for this step; without a step, the reason why the node itself allows the request
 pub record WayView : Type 0 where
   pub count : ℕ
   pub node : NodeView
   pub next : Option NextView
   pub reason : ReasonView
 
--- the first step of a way from x with the fewest steps: it goes to the first node as printed that such a
--- way can go to, by the first of the steps that are told, for the first reason
+-- the first step of the way x, which has the fewest steps. If such a way can go to several nodes,
+-- it goes to the first as printed. The step is the first one by which the start takes over this
+-- node, with the first reason
 pub record IsOnward (p : PolicyView) (principals : List Who) (steps : List Step) (asked : AccessView)
     (x : WayView) (next : NextView) : Type 0 where
   pub others : ℕ
@@ -51,7 +52,8 @@ pub record IsOnward (p : PolicyView) (principals : List Who) (steps : List Step)
   pub step : IsFirstTold p steps x.node next.node next.step
   pub reason : IsReason p x.node (ToTakeOver next.step next.node) x.reason
 
--- a way from a node that is a user or a group, or that steps lead to from one, with the fewest steps
+-- x is a way with the fewest steps from a user or a group, or from a node to which steps lead from
+-- one of these
 pub record IsWayOn (p : PolicyView) (principals : List Who) (steps : List Step) (asked : AccessView)
     (x : WayView) : Type 0 where
   pub come : IsComeTo p principals steps x.node
@@ -60,13 +62,13 @@ pub record IsWayOn (p : PolicyView) (principals : List Who) (steps : List Step) 
       ((x.count ≡ 0) × IsReason p x.node (ToBeAllowed asked) x.reason)
       (IsOnward p principals steps asked x)
 
--- fewer steps lead on from x, or as many, and x is printed before y
+-- the way x has fewer steps than y, or as many, and its start is printed before that of y
 abbrev pub IsShorter : WayView → WayView → Type 0
 IsShorter x y = IsSooner x.count y.count x.node y.node
 
--- exactly the users and groups, and the nodes that steps lead to from one of them, from which steps, or
--- none, lead to a node that allows what is asked for, in order of how many steps do, and then as printed
--- (own)
+-- exactly one way from each node that is a user or a group, or to which steps lead from one of
+-- these, and from which steps, or none, lead to a node that allows the request; in order of the
+-- number of steps, and then of the nodes as printed (own)
 pub record AreWays (p : PolicyView) (all : List Who) (steps : List Step) (asked : AccessView)
     (xs : List WayView) : Type 0 where
   pub each : All (IsWayOn p all steps asked) xs
@@ -74,7 +76,7 @@ pub record AreWays (p : PolicyView) (all : List Who) (steps : List Step) (asked 
       → StepsLeadOn p all steps asked n y → Any (λ x. x.node ≡ y) xs
   pub ordered : AllPairs IsShorter xs
 
--- the ways to what is asked for, where the nodes' users and groups are these
+-- the ways to the request, if the users and groups among the nodes are these
 abbrev pub AreWaysTo : PolicyView → List Who → List Step → AccessView → List WayView → Type 0
 AreWaysTo p principals steps asked xs = (all : List Who)
     × ((who : Who) → Contains all who ↔ Contains principals who) × AreWays p all steps asked xs

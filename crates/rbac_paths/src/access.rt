@@ -1,4 +1,4 @@
-//! What is asked for.
+//! Requests that may be allowed.
 
 ghost use Rattle.std.specs.Prelude.{◌↔◌, IsTrue};
 ghost use Rattle.rbac_paths.specs.Access.{access_of};
@@ -8,11 +8,11 @@ use crate::holding::Holding;
 use rbac_model::is_live_at;
 use rbac_terms::{Target, Word, rule_allows};
 
-/// A verb on a target in a namespace, which somebody may be allowed. Outside all namespaces the
-/// namespace is empty.
+/// A request that a node may allow: a verb on a target in a namespace. The empty namespace means
+/// the whole cluster. The namespace doesn't matter for a URL (own).
 #[derive(Clone, Copy)]
 pub struct Access<'a> {
-    /// Where it is asked for.
+    /// The namespace of the request; empty for the whole cluster.
     pub namespace: &'a Word,
     /// The verb.
     pub verb: &'a Word,
@@ -21,10 +21,11 @@ pub struct Access<'a> {
 }
 
 impl Access<'_> {
-    // Whether a rule allows it where the rule counts.
+    // Whether the holding's rule allows the request, and counts where the request is made.
     #[tactic(auto, unfolding(crate::specs::Aims::Serves))]
     pub(crate) fn is_given_by(self, held: &Holding<'_>) -> bool
-        ensures { IsTrue result ↔ Serves (ToBeAllowed (access_of self.entry)) held.now.home held.now.rule }
+        ensures { IsTrue result
+            ↔ Serves (ToBeAllowed (access_of self.entry)) held.now.home held.now.rule }
     {
         is_live_at(held.home, self.namespace, self.target)
             && rule_allows(held.rule, self.verb, self.target)

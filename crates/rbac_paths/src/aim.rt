@@ -1,4 +1,4 @@
-//! What the rules of a node are looked through for.
+//! What a node may be able to do by its rules.
 
 ghost use Rattle.std.specs.Prelude.{◌↔◌, IsTrue};
 ghost use Rattle.rbac_paths.specs.Aims.{Serves, aim_of};
@@ -8,17 +8,18 @@ use crate::holding::Holding;
 use crate::node::Node;
 use crate::told::StepRows;
 
-/// To take over a node by a step, or to be allowed what is asked for (own).
+/// What a node may be able to do: take over another node by a step, or allow a request (own).
 #[derive(Clone, Copy)]
 pub(crate) enum Aim<'a> {
-    /// To take over this node by the step of these rows.
+    /// Take over this node by this step.
     TakeOver(&'a StepRows, Node<'a>),
-    /// To be allowed this.
+    /// Allow this request.
     Access(Access<'a>),
 }
 
 impl Aim<'_> {
-    // Whether a rule lets it, where the rule counts.
+    // Whether the holding's rule, where it counts, allows this: a request of the step that takes
+    // over the node, or the request itself.
     #[tactic(auto, unfolding(crate::specs::Aims::Serves, crate::specs::Told::HoldingTakes))]
     pub(crate) fn is_served_by(self, held: &Holding<'_>) -> bool
         ensures { IsTrue result ↔ Serves (aim_of self.entry) held.now.home held.now.rule }

@@ -12,10 +12,13 @@ use crate::steps::Step;
 use rbac_model::Policy;
 use std::alloc::{AllocError, Global};
 
-/// The powers that a policy gives: each step that each key of a subject has in each namespace, or in
-/// the whole cluster, by the first grant and subject that give it (own). So somebody is allowed a
-/// request of a step exactly if a power of the step is for a key of theirs. Fails only if it runs
-/// out of memory.
+/// All powers that a policy gives, in order of the table of steps, and then of who and where, byte
+/// by byte as printed (own). There is one for each step, each key of a subject, and each place (a
+/// namespace or the whole cluster) where a grant gives the step to the key. It has the first such
+/// grant, and the first subject of the grant's binding with the key. So a principal is allowed a
+/// request of a step in a namespace, or in the whole cluster, exactly if some power of the step
+/// holds there whose key is the principal's or that of one of its groups. Fails only if it runs out
+/// of memory.
 pub fn powers<'p>(alloc: Global, policy: &'p Policy) -> Result<Powers<'p>, AllocError>
     ensures powers { IfOk result (λ xs. ArePowers policy.now xs) }
     ensures tell { IfOk result (λ xs. TellAll policy.now xs) }
@@ -27,7 +30,7 @@ pub fn powers<'p>(alloc: Global, policy: &'p Policy) -> Result<Powers<'p>, Alloc
     Ok(Powers::of(all))
 }
 
-// Adds the powers of a step.
+// Adds the powers of a step, in order of who and where.
 fn add_step<'p>(
     alloc: Global,
     policy: &'p Policy,

@@ -1,4 +1,4 @@
-//! Which nodes allow what is asked for. Each grant is asked once, and not again for each node that has
+//! Which nodes allow a request. Each grant is checked once, and not again for each node that has
 //! it.
 
 ghost use Rattle.std.specs.Prelude.{◌≡◌, ◌↔◌, All, Any, Contains, IfOk, IsTrue, false, map, ℕ};
@@ -21,7 +21,7 @@ use rbac_subjects::SubjectIndex;
 use rbac_terms::{Principal, Rule};
 use std::alloc::{AllocError, Global};
 
-/// The places of the nodes among these that allow what is asked for.
+/// The places, from 0, of the nodes among these that allow the request.
 pub(crate) fn places_of_allowing(
     alloc: Global,
     policy: &Policy,
@@ -47,7 +47,7 @@ pub(crate) fn places_of_allowing(
     Ok(places)
 }
 
-// Whether a node allows what is asked for; the bindings are marked that have a grant which does.
+// Whether a node allows the request. `marks` marks the bindings that have a grant which allows it.
 fn allows(
     alloc: Global,
     policy: &Policy,
@@ -62,8 +62,8 @@ fn allows(
     requires all { all.now ≡ rule_of_all }
     requires marks { MarkAllowing policy.now (access_of access) marks.now }
     requires role { HasItsRole policy.now.held (node_of node) }
-    ensures { IfOk result
-        (λ does. IsTrue does ↔ AllowsAccess policy.now (access_of access.entry) (node_of node.entry)) }
+    ensures { IfOk result (λ does. IsTrue does
+        ↔ AllowsAccess policy.now (access_of access.entry) (node_of node.entry)) }
 {
     match node {
         Node::Somebody(who) => is_allowed(alloc, index, marks, who),
@@ -71,7 +71,7 @@ fn allows(
     }
 }
 
-// Whether somebody is allowed what is asked for: whether a binding that names them is marked.
+// Whether the request is allowed to a principal: whether a binding that names it is marked.
 fn is_allowed(
     alloc: Global,
     index: &SubjectIndex<'_>,
@@ -88,12 +88,13 @@ fn is_allowed(
 
 // Whether one of these places is marked.
 fn some_is_marked(marks: &[bool], places: &[usize]) -> bool
-    ensures { IsTrue result ↔ Any (λ place. IsTrue (slice_index_or marks.now place false)) places.now }
+    ensures { IsTrue result
+        ↔ Any (λ place. IsTrue (slice_index_or marks.now place false)) places.now }
 {
     places.iter().any(|place| is_marked(marks, *place))
 }
 
-// Whether some rule that a node has allows what is asked for.
+// Whether one of the rules that a node has allows the request.
 fn rules_allow(
     alloc: Global,
     policy: &Policy,
@@ -106,14 +107,14 @@ fn rules_allow(
     requires index { index.now ≡ policy.now }
     requires all { all.now ≡ rule_of_all }
     requires role { HasItsRole policy.now.held (node_of node) }
-    ensures { IfOk result
-        (λ does. IsTrue does ↔ AllowsAccess policy.now (access_of access.entry) (node_of node.entry)) }
+    ensures { IfOk result (λ does. IsTrue does
+        ↔ AllowsAccess policy.now (access_of access.entry) (node_of node.entry)) }
 {
     let holdings = holdings_of(alloc, policy, index, all, node)?;
     Ok(some_gives(holdings.as_slice(), access))
 }
 
-// Whether some of these allows what is asked for where it counts.
+// Whether one of these holdings allows the request.
 fn some_gives(holdings: &[Holding<'_>], access: Access<'_>) -> bool
     ensures { IsTrue result ↔ Any
         (λ h. Serves (ToBeAllowed (access_of access.entry)) h.home h.rule) holdings.now }
@@ -121,7 +122,7 @@ fn some_gives(holdings: &[Holding<'_>], access: Access<'_>) -> bool
     holdings.iter().any(|held| access.is_given_by(held))
 }
 
-// A mark for each binding: whether it has a grant that allows what is asked for.
+// For each binding, whether one of its grants allows the request.
 fn allowing_bindings(
     alloc: Global,
     policy: &Policy,

@@ -1,5 +1,6 @@
-//! The names of roles that rules let one bind. Whoever can bind a role, but not all of its scope, has a
-//! rule with the role's name: so other roles needn't be asked for.
+//! The names of roles that rules let one bind. If a node can bind a role, but not every role of the
+//! scope, it has a rule that is limited to names and lists this role's name. So roles with other
+//! names needn't be nodes.
 
 ghost use Rattle.std.specs.Prelude.{◌⊎◌, ◌↔◌, Any, Contains, IfOk, IsTrue, OnOk};
 ghost use Rattle.rbac_terms.specs.Text.{Text};
@@ -16,7 +17,7 @@ use rbac_model::Policy;
 use rbac_terms::{Rule, Word};
 use std::alloc::{AllocError, Global};
 
-/// The names of roles that rules of this policy let one bind, in order, each once.
+/// The object names of all rules of this policy that let one bind roles, in byte order, each once.
 pub(crate) fn bound_names(alloc: Global, policy: &Policy) -> Result<Vec<Word>, AllocError>
     ensures names { IfOk result (λ names. AreBoundNames policy.now.held names.items) }
     ensures policy { OnOk result (IsPolicy policy.now) }
@@ -34,7 +35,7 @@ pub(crate) fn bound_names(alloc: Global, policy: &Policy) -> Result<Vec<Word>, A
     Ok(names)
 }
 
-// Adds the names of those of these rules that let one bind roles.
+// Adds the object names of the rules that let one bind roles.
 fn add_names(rows: &[WordRow], rules: &[Rule], names: &mut Vec<Word>) -> Result<(), AllocError>
     requires { AreOfStep Bind table rows.now }
     ensures { OnOk result (AddsWhere (λ name. Any (λ rule. BindsNamed rule name) rules.now)
@@ -46,7 +47,7 @@ fn add_names(rows: &[WordRow], rules: &[Rule], names: &mut Vec<Word>) -> Result<
     Ok(())
 }
 
-// Adds the names of the rule, if it lets one bind roles.
+// Adds the object names of the rule, if it lets one bind roles.
 fn add_of_rule(rows: &[WordRow], rule: &Rule, names: &mut Vec<Word>) -> Result<(), AllocError>
     requires { AreOfStep Bind table rows.now }
     ensures { OnOk result (AddsWhere (BindsNamed rule.now) names.old.items names.new.items) }
@@ -57,7 +58,7 @@ fn add_of_rule(rows: &[WordRow], rule: &Rule, names: &mut Vec<Word>) -> Result<(
     Ok(())
 }
 
-// Whether the rule matches some of these rows.
+// Whether the rule matches one of these rows.
 pub(crate) fn matches_some(rows: &[WordRow], rule: &Rule) -> bool
     ensures { IsTrue result ↔ Any (λ row. MatchesRow row rule.now) rows.now }
 {

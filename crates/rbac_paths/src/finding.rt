@@ -1,4 +1,4 @@
-//! The powers of one step, binding by binding.
+//! Finds the powers of one step, binding by binding.
 
 ghost use Rattle.std.specs.Prelude.{◌<◌, ◌≡◌, ◌↔◌, Any, IfOk, IfSome, OnOk, IsTrue, MatchOption, length};
 ghost use Rattle.std.specs.Option.{option_copied};
@@ -19,10 +19,10 @@ use rbac_text::{put_choice_and_tab, put_field_and_tab};
 use std::alloc::{AllocError, Global};
 use std::collections::BTreeMap;
 
-/// Powers of a step, under who and where as they are printed.
+/// Powers of a step. The key of each is its who and where, as printed.
 pub(crate) type Found<'p> = BTreeMap<Word, Power<'p>>;
 
-// The powers of a step.
+// All powers of a step.
 pub(crate) fn found_of<'p>(
     alloc: Global,
     policy: &'p Policy,
@@ -42,7 +42,8 @@ pub(crate) fn found_of<'p>(
     Ok(found)
 }
 
-// The number of the first grant of the binding at this place that gives the step of these rows.
+// The number of the first grant that gives the step of these rows, among the grants of the binding
+// at this place.
 fn first_giving(policy: &Policy, place: usize, rows: &[WordRow]) -> Option<u32>
     ensures first { (step : Step) → AreOfStep step table rows.now → MatchOption result
         (GivesNone policy.now step place)
@@ -60,8 +61,8 @@ fn first_giving(policy: &Policy, place: usize, rows: &[WordRow]) -> Option<u32>
     None
 }
 
-// Whether the rule allows some request of these rows where a binding in this namespace, or in none,
-// is live.
+// Whether the rule, granted in this namespace, or in the whole cluster if there is none, allows a
+// request of one of these rows.
 fn allows_some(rows: &[WordRow], namespace: Option<&Word>, rule: &Rule) -> bool
     ensures { IsTrue result ↔ Any (AllowsIn (option_copied namespace.entry) rule.now) rows.now }
 {
@@ -69,7 +70,8 @@ fn allows_some(rows: &[WordRow], namespace: Option<&Word>, rule: &Rule) -> bool
         .any(|row| row.counts_in(namespace) && row.is_allowed_by(rule))
 }
 
-// Adds the step for each key of a subject of the grant's binding, unless it was found before.
+// Adds a power for each key of a subject of the grant's binding, unless one with the same who and
+// where was found before.
 fn add_of_grant<'p>(
     alloc: Global,
     step: Step,
@@ -96,7 +98,7 @@ fn add_of_grant<'p>(
     Ok(())
 }
 
-// Who and where, as they are printed, each with the tab after it.
+// Who and where, as printed, each with a tab after it.
 fn who_and_where(alloc: Global, who: &Word, namespace: Option<&Word>) -> Result<Word, AllocError>
     ensures { IfOk result
         (λ text. text ≡ who_and_where who.now (option_copied namespace.entry)) }

@@ -19,8 +19,8 @@ use rbac_terms::{ClusterRole, Principal, Rule, Rules, Word, Words};
 use std::alloc::{AllocError, Global};
 use std::marker::Model;
 
-/// A rule that a node has, and where it counts: in a namespace, or, if there is none, in the whole
-/// cluster.
+/// A rule that a node has, and where the rule counts: in the namespace `home`, or in the whole
+/// cluster if `home` is `None`.
 #[derive(Drop)]
 pub(crate) struct Holding<'p> {
     pub(crate) home: Option<&'p Word>,
@@ -37,7 +37,7 @@ impl<'p> Model for Holding<'p> {
 }
 
 impl<'p> Holding<'p> {
-    // What a grant gives those whom its binding names.
+    // The holding that a grant gives to each principal that its binding names.
     pub(crate) fn by(grant: Grant<'p>) -> Self
         ensures { result ≡ grant_holding (grant_of grant.entry) }
     {
@@ -48,10 +48,10 @@ impl<'p> Holding<'p> {
     }
 }
 
-// The word that matches every word.
+// The word that matches every verb, API group, resource and URL.
 const STAR: &[u8] = b"*";
 
-/// The rule that allows everything.
+/// The rule that allows every request.
 pub(crate) fn rule_of_all(alloc: Global) -> Result<Rule, AllocError>
     ensures { IfOk result (λ rule. rule ≡ rule_of_all) }
 {
@@ -64,7 +64,7 @@ pub(crate) fn rule_of_all(alloc: Global) -> Result<Rule, AllocError>
     })
 }
 
-// The one word that matches every word.
+// A list with the one word `*`.
 fn star(alloc: Global) -> Result<Words, AllocError>
     ensures { IfOk result (λ words. words ≡ codes "*" ∷ []) }
 {
@@ -73,8 +73,9 @@ fn star(alloc: Global) -> Result<Words, AllocError>
     Ok(words)
 }
 
-/// The rules that a node has: somebody, those of the grants whose bindings name them; a role, its
-/// own, or those that it gathers; everything, the rule that allows everything.
+/// The rules that a node has. A user or a group has the rules of the grants whose bindings name it.
+/// A role has its written rules, or, if it is aggregated, the rules that it gathers. Everything in
+/// a scope has the rule that allows every request.
 pub(crate) fn holdings_of<'p>(
     alloc: Global,
     policy: &'p Policy,
@@ -95,7 +96,7 @@ pub(crate) fn holdings_of<'p>(
     }
 }
 
-// The rules of the grants whose bindings name somebody.
+// The rules of the grants whose bindings name this principal.
 fn of_somebody<'p>(
     alloc: Global,
     policy: &'p Policy,
@@ -114,7 +115,7 @@ fn of_somebody<'p>(
     Ok(holdings)
 }
 
-// Adds what the grants numbered from `start` up to `end` give.
+// Adds the holdings that the grants `start..end` give.
 fn push_grants<'p>(
     policy: &'p Policy,
     start: u32,
@@ -150,15 +151,16 @@ fn of_cluster_role<'p>(
     Ok(holdings)
 }
 
-// The cluster roles whose written rules a cluster role has: itself, if it is plain, or those that it
-// gathers from.
+// The cluster roles whose written rules a cluster role has: the role itself if it is plain,
+// otherwise the plain roles that it gathers from.
 pub(crate) fn sources_of<'p>(
     alloc: Global,
     policy: &'p Policy,
     role: &'p ClusterRole,
 ) -> Result<Vec<&'p ClusterRole>, AllocError>
     requires { Contains policy.now.held.cluster_roles role.now }
-    ensures { IfOk result (λ ss. AreSourceRoles policy.now.held role.now (map (λ s. s.now) ss.items)) }
+    ensures { IfOk result
+        (λ ss. AreSourceRoles policy.now.held role.now (map (λ s. s.now) ss.items)) }
 {
     if role.aggregation.is_some() {
         return gathered_by(alloc, policy, role);
@@ -168,7 +170,7 @@ pub(crate) fn sources_of<'p>(
     Ok(own)
 }
 
-// The plain cluster roles that a cluster role reaches.
+// The plain cluster roles that a cluster role reaches by selection steps.
 fn gathered_by<'p>(
     alloc: Global,
     policy: &'p Policy,
@@ -190,7 +192,7 @@ fn gathered_by<'p>(
     Ok(gathered)
 }
 
-// The place of a cluster role that is among these.
+// The place of a cluster role in a list that contains it.
 fn place_of(roles: &[ClusterRole], role: &ClusterRole) -> Option<usize>
     requires ascending { IsAscendingBy cluster_role_name roles.now }
     requires among { Contains roles.now role.now }
@@ -199,7 +201,7 @@ fn place_of(roles: &[ClusterRole], role: &ClusterRole) -> Option<usize>
     roles.binary_search_by(|held| held.cmp_name(role)).ok()
 }
 
-// Whether the cluster role at the second place is plain, and the one at the first reaches it.
+// Whether the cluster role at place `at` reaches the one at place `to`, and the latter is plain.
 fn is_source(policy: &Policy, at: usize, to: usize) -> bool
     requires at { at < length policy.now.held.cluster_roles }
     requires to { to < length policy.now.held.cluster_roles }
@@ -209,7 +211,7 @@ fn is_source(policy: &Policy, at: usize, to: usize) -> bool
     policy.reaches(at, to) && policy.objects().cluster_roles()[to].aggregation.is_none()
 }
 
-// These rules, each where it counts.
+// A holding for each of these rules, which count in `home`.
 fn with_rules<'p>(
     alloc: Global,
     home: Option<&'p Word>,
@@ -222,20 +224,21 @@ fn with_rules<'p>(
     Ok(holdings)
 }
 
-// One rule, where it counts.
+// The one holding of this rule, which counts in `home`.
 fn with_rule<'p>(
     alloc: Global,
     home: Option<&'p Word>,
     rule: &'p Rule,
 ) -> Result<Vec<Holding<'p>>, AllocError>
-    ensures { IfOk result (λ hs. hs.items ≡ holdings_at (option_copied home.entry) (rule.now ∷ [])) }
+    ensures { IfOk result
+        (λ hs. hs.items ≡ holdings_at (option_copied home.entry) (rule.now ∷ [])) }
 {
     let mut holdings = Vec::new(alloc);
     holdings.push(Holding { home, rule })?;
     Ok(holdings)
 }
 
-// Adds these rules, each where it counts.
+// Adds a holding for each of these rules, which count in `home`.
 fn push_rules<'p>(
     home: Option<&'p Word>,
     rules: &'p Rules,

@@ -1,4 +1,4 @@
-//! Laws of powers and of paths, each stated by the contract of a function that does nothing.
+//! Laws of powers, paths and ways. Each law is the contract of a function that does nothing.
 
 ghost use Rattle.std.specs.Prelude.{◌≡◌, [], Any, Contains, List};
 ghost use Rattle.rbac_model.specs.Holders.{IsKeyFor};
@@ -12,31 +12,33 @@ ghost use Rattle.rbac_paths.specs.WaysTo.{AreWaysTo, WayView};
 ghost use Rattle.rbac_paths.specs.declared.steps.Step.{Step};
 ghost use Rattle.rbac_terms.specs.Principals.{Who};
 
-/// The powers that a policy gives are one list: any two lists of them are the same, in the same
-/// order (own).
+/// A policy determines the list of its powers: two lists of all its powers are the same, in the
+/// same order (own).
 pub fn powers_are_one()
     ensures { (p : PolicyView) (xs others : List PowerView) → ArePowers p xs → ArePowers p others
         → xs ≡ others }
 {}
 
-/// The paths from somebody are one list: any two lists of them are the same, in the same order (own).
+/// The policy, the principals, the steps and the start determine the list of paths: two lists of
+/// all paths from a principal are the same, in the same order (own).
 pub fn paths_are_one()
     ensures { (p : PolicyView) (principals : List Who) (steps : List Step) (who : Who)
         (xs others : List PathView) → ArePathsOf p principals steps who xs
         → ArePathsOf p principals steps who others → xs ≡ others }
 {}
 
-/// The ways to what is asked for are one list: any two lists of them are the same, in the same order
-/// (own).
+/// The policy, the principals, the steps and the request determine the list of ways: two lists of
+/// all ways to a request are the same, in the same order (own).
 pub fn ways_are_one()
     ensures { (p : PolicyView) (principals : List Who) (steps : List Step) (asked : AccessView)
         (xs others : List WayView) → AreWaysTo p principals steps asked xs
         → AreWaysTo p principals steps asked others → xs ≡ others }
 {}
 
-/// Somebody, whose key tells them apart from the others, is listed among the ways to what is asked for
-/// exactly if they are allowed it, or their paths have a node that allows it; and with the fewest
-/// steps to such a node, or none if they are allowed it themselves (own).
+/// If no two principals have the same key, paths and ways agree about each of them (own). The ways
+/// to a request list a principal exactly if the request is allowed to it, or its paths list a node
+/// that allows the request. The way's number of steps is 0 if the request is allowed to the
+/// principal itself; otherwise it is the least number of steps of such a path.
 pub fn ways_agree_with_paths()
     ensures { (p : PolicyView) (principals : List Who) (steps : List Step) (who : Who)
         (asked : AccessView) (paths : List PathView) (ways : List WayView)
@@ -45,8 +47,7 @@ pub fn ways_agree_with_paths()
         → AgreeOn p who asked paths ways }
 {}
 
-/// Somebody without a power, by their own key or that of one of their groups, comes to nobody and nothing
-/// (own).
+/// A principal comes to no node if no power has its key or that of one of its groups (own).
 pub fn paths_begin_with_powers()
     ensures { (p : PolicyView) (powers : List PowerView) (principals : List Who) (steps : List Step)
         (who : Who) (paths : List PathView) → IsPolicy p → ArePowers p powers

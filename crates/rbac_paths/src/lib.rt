@@ -1,5 +1,5 @@
-//! Whom somebody can take over: the steps by which one comes to act as another, and who can take
-//! which.
+//! Whom and what a user or a group can take over: the single steps that it can take (powers), the
+//! nodes that it comes to step by step (paths), and who comes to a request (ways).
 #![tactic(auto)]
 
 mod access;

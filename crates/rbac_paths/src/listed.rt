@@ -1,11 +1,11 @@
-//! What is at a place of a list.
+//! Lists and marks by place, where places past the last one have none.
 
 ghost use Rattle.std.specs.Prelude.{◌≡◌, [], false};
 ghost use Rattle.std.specs.Prelude.{slice_index_or};
 
 use rbac_terms::Items;
 
-/// What is listed at this place; nothing past the last.
+/// The list at this place; empty past the last one.
 pub(crate) fn listed_at<T>(lists: &[Items<T>], place: usize) -> &[T]
     ensures { result.now ≡ slice_index_or lists.now place [] }
 {
@@ -15,7 +15,7 @@ pub(crate) fn listed_at<T>(lists: &[Items<T>], place: usize) -> &[T]
     }
 }
 
-/// Whether this place is marked; none past the last is.
+/// Whether this place is marked; `false` past the last one.
 pub(crate) fn is_marked(marks: &[bool], place: usize) -> bool
     ensures { result ≡ slice_index_or marks.now place false }
 {

@@ -1,4 +1,4 @@
-//! Whom and what one can take over.
+//! Nodes: whom and what one can take over.
 
 ghost use Rattle.std.specs.Prelude.{◌≡◌, ◌++◌, OnOk, codes};
 ghost use Rattle.rbac_text.specs.Row.{field_and_tab};
@@ -9,23 +9,24 @@ use rbac_terms::{CLUSTER_ROLE, ClusterRole, Principal, Role, Word};
 use rbac_text::{put_choice_and_tab, put_field_and_tab, put_role};
 use std::alloc::AllocError;
 
-/// Somebody, or something that one can come to have (own).
+/// Whom or what a step can take over: a user or a group, a role where it can be bound, or
+/// everything in a scope (own).
 #[derive(Clone, Copy)]
 pub enum Node<'p> {
     /// A user or a group.
     Somebody(&'p Principal),
-    /// A cluster role that is bound in this namespace, or, if there is none, in the whole cluster.
+    /// A cluster role, bound in this namespace, or in the whole cluster if there is none.
     ClusterRole(&'p ClusterRole, Option<&'p Word>),
-    /// A role that is bound in its namespace.
+    /// A Role, bound in its own namespace.
     Role(&'p Role),
-    /// Everything in this namespace, or, if there is none, in the whole cluster.
+    /// Everything in this namespace, or in the whole cluster if there is none.
     Everything(Option<&'p Word>),
 }
 
-/// Adds who or what a node is, and where, each with a tab after it (own): the key of a user or a
-/// group, and `-`; `ClusterRole/NAME` or `Role/NAMESPACE/NAME`, or `*` for everything, and the
-/// namespace, or `*` for the whole cluster. If it runs out of memory, a prefix of them may have been
-/// added.
+/// Adds who or what a node is, and where, as two fields with a tab after each (own). A user or a
+/// group is printed as its key and `-`. Any other node is printed as `ClusterRole/NAME`,
+/// `Role/NAMESPACE/NAME` or, for everything, `*`, and its namespace, or `*` for the whole cluster.
+/// If it runs out of memory, a prefix of both may have been added.
 pub(crate) fn put_node(line: &mut Vec<u8>, node: Node<'_>) -> Result<(), AllocError>
     ensures { OnOk result (line.new.items ≡ line.old.items ++ node_text (node_of node.entry)) }
 {
@@ -33,7 +34,7 @@ pub(crate) fn put_node(line: &mut Vec<u8>, node: Node<'_>) -> Result<(), AllocEr
     put_where(line, node)
 }
 
-// Adds who or what a node is.
+// Adds who or what a node is, and a tab.
 pub(crate) fn put_what(line: &mut Vec<u8>, node: Node<'_>) -> Result<(), AllocError>
     ensures { OnOk result
         (line.new.items ≡ line.old.items ++ field_and_tab (who_or_what (node_of node.entry))) }
@@ -46,7 +47,7 @@ pub(crate) fn put_what(line: &mut Vec<u8>, node: Node<'_>) -> Result<(), AllocEr
     }
 }
 
-// Adds where a node is: a user or a group is nowhere.
+// Adds where a node is, and a tab. A user or a group is nowhere, which is printed as `-`.
 fn put_where(line: &mut Vec<u8>, node: Node<'_>) -> Result<(), AllocError>
     ensures { OnOk result (line.new.items ≡ line.old.items ++ where_text (node_of node.entry)) }
 {
@@ -58,7 +59,7 @@ fn put_where(line: &mut Vec<u8>, node: Node<'_>) -> Result<(), AllocError>
     }
 }
 
-// Adds the name of a cluster role as one field, and the tab after it.
+// Adds `ClusterRole/NAME` as one field, and a tab.
 pub(crate) fn put_cluster_role(line: &mut Vec<u8>, role: &ClusterRole) -> Result<(), AllocError>
     ensures { OnOk result (line.new.items
         ≡ line.old.items ++ field_and_tab (codes "ClusterRole/" ++ role.now.name)) }
@@ -69,7 +70,7 @@ pub(crate) fn put_cluster_role(line: &mut Vec<u8>, role: &ClusterRole) -> Result
     put_field_and_tab(line, name.as_bytes())
 }
 
-// Adds the name of a role of a namespace as one field, and the tab after it.
+// Adds `Role/NAMESPACE/NAME` as one field, and a tab.
 pub(crate) fn put_own_role(line: &mut Vec<u8>, role: &Role) -> Result<(), AllocError>
     ensures { OnOk result (line.new.items ≡ line.old.items
         ++ field_and_tab (codes "Role/" ++ role.now.namespace ++ codes "/" ++ role.now.name)) }

@@ -1,4 +1,4 @@
-//! The nodes, in order of how they are printed.
+//! The nodes of a policy, in order of their printed texts.
 
 ghost use Rattle.std.specs.Prelude.{◌≡◌, ◌≢◌, ◌↔◌, AllPairs, Any, Contains, IfOk, OnOk, Option, map};
 ghost use Rattle.std.specs.BTreeMap.{IsOrdered, values};
@@ -20,12 +20,13 @@ use rbac_terms::{Binding, ClusterRole, Principal, Role, Word, is_among};
 use std::alloc::{AllocError, Global};
 use std::collections::BTreeMap;
 
-// Nodes, under who and where as they are printed.
+// Nodes. The key of each is its printed text: who or what, and where.
 type Printed<'p> = BTreeMap<Word, Node<'p>>;
 
-/// The nodes of a policy, these users and groups among them, in order of who and where as they are
-/// printed; of the roles only those with one of these names (own). The keys of the users and groups
-/// differ, and the names are in byte order. Fails only if it runs out of memory.
+/// The nodes of a policy (own): these users and groups; the roles with one of these names, in each
+/// scope where they can be bound; and everything in each scope. Nodes are in order of who and
+/// where, byte by byte as printed. No two of the users and groups may have the same key, and the
+/// names are in byte order. Fails only if it runs out of memory.
 pub(crate) fn nodes_of<'p>(
     alloc: Global,
     policy: &'p Policy,
@@ -44,7 +45,7 @@ pub(crate) fn nodes_of<'p>(
     in_order(alloc, &nodes)
 }
 
-// The nodes, in order of their texts.
+// The nodes of the map, in order of their printed texts.
 fn in_order<'p>(alloc: Global, nodes: &Printed<'p>) -> Result<Vec<Node<'p>>, AllocError>
     ensures items { IfOk result (λ list. list.items ≡ values nodes.now) }
     ensures ordered { IsOrdered text_cmp nodes.now }
@@ -52,7 +53,7 @@ fn in_order<'p>(alloc: Global, nodes: &Printed<'p>) -> Result<Vec<Node<'p>>, All
     nodes.values().copied().collect(alloc)
 }
 
-// Adds users and groups.
+// Adds these users and groups.
 fn add_principals<'p>(
     alloc: Global,
     principals: &[&'p Principal],
@@ -67,7 +68,7 @@ fn add_principals<'p>(
     Ok(())
 }
 
-// Adds what can be had in each scope.
+// Adds, for each scope, everything there, and the cluster roles with one of these names.
 fn add_scopes<'p>(
     alloc: Global,
     policy: &'p Policy,
@@ -106,8 +107,8 @@ fn named_cluster_roles<'p>(
     Ok(named)
 }
 
-// The whole cluster, and each namespace of a RoleBinding, but the empty one. Bindings are in order
-// of these, so each is listed once.
+// The scopes: the whole cluster, and each namespace that has a RoleBinding, except the empty one.
+// Bindings are in order of their namespaces, so each scope is listed once.
 fn scopes_of<'p>(alloc: Global, policy: &'p Policy) -> Result<Vec<Option<&'p Word>>, AllocError>
     ensures { IfOk result (λ scopes. (scope : Option Text)
         → Contains (map (λ s. option_copied s) scopes.items) scope ↔ IsScope policy.now scope) }
@@ -124,8 +125,9 @@ fn scopes_of<'p>(alloc: Global, policy: &'p Policy) -> Result<Vec<Option<&'p Wor
     Ok(scopes)
 }
 
-// The namespace of a binding, if it has one that isn't empty: no binding is live in the empty
-// namespace, so nothing is to be had there.
+// The namespace of a binding as a scope: `None`, which means the whole cluster, for a
+// ClusterRoleBinding. Also `None` for a binding in the empty namespace, which is no scope, because
+// no binding is live there.
 fn scope_of(binding: &Binding) -> Option<&Word>
     ensures { option_copied result ≡ filled_namespace binding.now.namespace }
 {
@@ -152,7 +154,8 @@ fn add_in_scope<'p>(
     Ok(())
 }
 
-// Adds the roles with one of these names, of the scopes that were added before.
+// Adds the Roles that have one of these names and whose namespace is a scope. The scopes were added
+// before.
 fn add_roles<'p>(
     alloc: Global,
     policy: &'p Policy,
@@ -173,7 +176,8 @@ fn add_roles<'p>(
     Ok(())
 }
 
-// Adds a role, if its namespace is among the scopes that were added before.
+// Adds a Role if its namespace is a scope, that is, if everything in this namespace was added
+// before.
 fn add_role<'p>(alloc: Global, role: &'p Role, nodes: &mut Printed<'p>) -> Result<(), AllocError>
     ensures { OnOk result (AddsNodes (IsRoleThere nodes.old role.now) nodes.old nodes.new) }
 {
@@ -184,7 +188,7 @@ fn add_role<'p>(alloc: Global, role: &'p Role, nodes: &mut Printed<'p>) -> Resul
     Ok(())
 }
 
-// Adds a node.
+// Adds a node under its printed text.
 fn add_node<'p>(alloc: Global, node: Node<'p>, nodes: &mut Printed<'p>) -> Result<(), AllocError>
     ensures { OnOk result (AddsNodes (λ y. y ≡ node_of node.entry) nodes.old nodes.new) }
 {
@@ -192,7 +196,7 @@ fn add_node<'p>(alloc: Global, node: Node<'p>, nodes: &mut Printed<'p>) -> Resul
     Ok(())
 }
 
-// Who or what a node is, and where, as they are printed, each with a tab after it.
+// The printed text of a node: who or what it is, and where, each with a tab after it.
 fn text_of(alloc: Global, node: Node<'_>) -> Result<Word, AllocError>
     ensures { IfOk result (λ text. text ≡ node_text (node_of node.entry)) }
 {

@@ -1,4 +1,5 @@
-//! Which roles a node takes over, and everything where.
+//! Which of the other nodes a node takes over. The other nodes are those that are neither users nor
+//! groups: roles, and everything in a scope.
 
 ghost use Rattle.std.specs.Prelude.{◌≡◌, ◌<◌, ◌↔◌, ◌∷◌, [], All, Any, Contains, IfOk, IsTrue, List};
 ghost use Rattle.std.specs.Prelude.{None, OnOk, length, map, ℕ};
@@ -32,8 +33,8 @@ use rbac_ways::NodesByWord;
 use std::alloc::{AllocError, Global};
 use std::marker::Model;
 
-/// The places of the roles among some nodes, and of everything: all of them, and those of each scope.
-/// Most nodes are users and groups.
+/// The places of the other nodes in a list of nodes: all of them, and those in each scope. Most
+/// nodes of a list are users and groups.
 pub(crate) struct Others {
     places: Vec<usize>,
     by_scope: NodesByWord,
@@ -54,7 +55,7 @@ impl Model for Others {
 }
 
 impl Others {
-    /// Those of these nodes.
+    /// The places of the other nodes in this list.
     pub(crate) fn of(alloc: Global, nodes: &[Node<'_>]) -> Result<Self, AllocError>
         ensures { IfOk result (AreAmongOthers (map node_of nodes.now)) }
     {
@@ -64,7 +65,7 @@ impl Others {
         Ok(Others { places, by_scope })
     }
 
-    // Those in the scope.
+    // The places of the other nodes in this scope.
     fn at(&self, alloc: Global, scope: Option<&Word>) -> &[usize]
         ensures { (j : ℕ) → Contains result.now j
             ↔ HasUnder self.now.by_scope (scope_namespace (option_copied scope.entry)) j }
@@ -76,7 +77,7 @@ impl Others {
     }
 }
 
-// The places of the roles among these nodes, and of everything.
+// The places of the other nodes in this list.
 fn places_of_others(alloc: Global, nodes: &[Node<'_>]) -> Result<Vec<usize>, AllocError>
     ensures { IfOk result (λ places. AreOtherPlaces (map node_of nodes.now) places.items) }
 {
@@ -89,16 +90,17 @@ fn places_of_others(alloc: Global, nodes: &[Node<'_>]) -> Result<Vec<usize>, All
     Ok(places)
 }
 
-// Whether a node is a role, or everything.
+// Whether a node is one of the other nodes: a role, or everything in a scope.
 fn is_nobody(node: Node<'_>) -> bool
     ensures { IsTrue result ↔ IsNobody (node_of node.entry) }
 {
     !matches!(node, Node::Somebody(_))
 }
 
-// For each of these nodes, the word for where it is; users and groups are nowhere.
+// For each of these nodes, the word for its scope; none for a user or a group.
 fn scopes_of_others(alloc: Global, nodes: &[Node<'_>]) -> Result<Vec<Words>, AllocError>
-    ensures { IfOk result (λ all. AreScopeWords (map node_of nodes.now) (length nodes.now) all.items) }
+    ensures { IfOk result
+        (λ all. AreScopeWords (map node_of nodes.now) (length nodes.now) all.items) }
 {
     let mut all = Vec::with_capacity(alloc, nodes.len())?;
     for node in nodes {
@@ -107,7 +109,7 @@ fn scopes_of_others(alloc: Global, nodes: &[Node<'_>]) -> Result<Vec<Words>, All
     Ok(all)
 }
 
-// The word for where a node is, if it is a role, or everything.
+// The word for the scope of a role, or of everything; none for a user or a group.
 fn words_of_scope(alloc: Global, node: Node<'_>) -> Result<Words, AllocError>
     ensures { IfOk result (λ ws. ws ≡ scope_words (node_of node.entry)) }
 {
@@ -119,7 +121,8 @@ fn words_of_scope(alloc: Global, node: Node<'_>) -> Result<Words, AllocError>
     Ok(words)
 }
 
-// Where a role is, or everything.
+// The scope of a role, or of everything. `None` means the whole cluster; a user or a group also has
+// `None`.
 fn scope_at<'p>(node: Node<'p>) -> Option<&'p Word>
     ensures { option_copied result ≡ scope_at (node_of node.entry) }
 {
@@ -130,7 +133,8 @@ fn scope_at<'p>(node: Node<'p>) -> Option<&'p Word>
     }
 }
 
-/// Those of the holdings whose rules match some row of the steps that is over roles or everything.
+/// The holdings that may take over other nodes by these steps: those whose rules match a row that
+/// takes over roles or everything.
 pub(crate) fn over_others<'p>(
     alloc: Global,
     steps: &[StepRows],
@@ -149,8 +153,8 @@ pub(crate) fn over_others<'p>(
     Ok(few)
 }
 
-/// The same of what the grants with these numbers give. What the rules of roles take over by the steps
-/// is given.
+/// The holdings that may take over other nodes by some steps, among those that the grants with
+/// these numbers give. `takeovers` lists what each rule of each role takes over by these steps.
 pub(crate) fn over_others_of_grants<'p>(
     alloc: Global,
     policy: &'p Policy,
@@ -172,8 +176,9 @@ pub(crate) fn over_others_of_grants<'p>(
     Ok(few)
 }
 
-/// The places of the roles among these nodes, and of everything, that a node takes over; these holdings
-/// decide that. The steps by which one writes are given, and the places of all roles and everything.
+/// The places of the other nodes that the node `from` takes over by these steps. The holdings `few`
+/// are enough to decide that. `writing` are the steps `bind` and `escalate`, and `others` has the
+/// places of all other nodes.
 pub(crate) fn others_taken(
     alloc: Global,
     steps: &[StepRows],
@@ -198,9 +203,11 @@ pub(crate) fn others_taken(
     others_among(alloc, steps, few, from, nodes, places.as_slice())
 }
 
-// Those of the holdings in whose scopes a node may take over roles, and everything in a namespace. Only
-// by writing does it take over such, and none if it takes over everything in the cluster so. Most rules
-// that are over everything are over that of the cluster alone.
+// The holdings that decide in which scopes a node may take over roles, or everything in a
+// namespace. A node takes these over only by `bind` and `escalate`, and takes over none of them if
+// it takes over everything in the whole cluster by these steps. By `certificates` and `webhooks` a
+// node takes over only everything in the whole cluster, so holdings for these steps alone are left
+// out.
 fn scoped<'p>(
     alloc: Global,
     steps: &[StepRows],
@@ -217,7 +224,7 @@ fn scoped<'p>(
     over_others(alloc, writing, holdings)
 }
 
-// Whether some of these holdings counts in the whole cluster.
+// Whether one of these holdings counts in the whole cluster.
 fn count_in_cluster(holdings: &[Holding<'_>]) -> bool
     ensures { IsTrue result ↔ Any (CountsAt None) holdings.now }
 {
@@ -231,8 +238,9 @@ fn counts_in_cluster(held: &Holding<'_>) -> bool
     held.home.is_none()
 }
 
-// The places of the others that are asked for: those where one of these scoped holdings counts, and, if
-// one of the few counts in the cluster, those in the cluster. Each is listed once.
+// The places of the other nodes that are to be checked, each once: those in scopes where one of the
+// `scoped` holdings counts, and, if one of the `few` counts in the whole cluster, those in the
+// whole cluster.
 fn places_to_ask(
     alloc: Global,
     few: &[Holding<'_>],
@@ -254,7 +262,7 @@ fn places_to_ask(
     Ok(places)
 }
 
-// Adds the places of the others in the whole cluster, if one of these holdings counts there.
+// Adds the places of the other nodes in the whole cluster, if one of these holdings counts there.
 fn add_in_cluster(
     alloc: Global,
     holdings: &[Holding<'_>],
@@ -271,7 +279,7 @@ fn add_in_cluster(
     Ok(())
 }
 
-// Adds the places of the others in the scopes of these holdings.
+// Adds the places of the other nodes in the scopes of these holdings.
 fn add_in_scopes(
     alloc: Global,
     holdings: &[Holding<'_>],
@@ -288,7 +296,7 @@ fn add_in_scopes(
     Ok(())
 }
 
-// Those of these places of others at which the node takes over what is there; these holdings decide
+// The places among these whose node the node `from` takes over. These holdings are enough to decide
 // that.
 fn others_among(
     alloc: Global,
@@ -313,7 +321,7 @@ fn others_among(
     Ok(Items::from_vec(taken))
 }
 
-// Whether a node takes over a role, or everything; these holdings decide that.
+// Whether the node `from` takes over the other node `to`. These holdings are enough to decide that.
 fn takes_nobody(steps: &[StepRows], holdings: &[Holding<'_>], from: Node<'_>, to: Node<'_>) -> bool
     ensures { (p : PolicyView)
         → DecideOn p steps.now (node_of from.entry) holdings.now IsNobody

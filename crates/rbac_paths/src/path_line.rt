@@ -1,4 +1,4 @@
-//! Lines of paths: each with why its last step is one.
+//! How a path is printed: its end, its last step, and the reason for this step.
 
 ghost use Rattle.std.specs.Prelude.{◌≡◌, ◌++◌, ◌∷◌, [], OnOk, decimal};
 ghost use Rattle.rbac_model.specs.Sources.{source_of};
@@ -16,12 +16,12 @@ use rbac_model::SourceRole;
 use rbac_text::{put_field, put_field_and_tab, put_place, put_why};
 use std::alloc::AllocError;
 
-/// Adds the line of a path (own): how many steps lead to its node, who or what that is and where, who
-/// or what the node before it is and where, the step between them, and why it is one: the binding,
-/// its role, the role where the rule is written, and the places of the rule there and of the subject
-/// in the binding, joined by tabs, with a newline at the end. Where the node before is a role, `-`
-/// stands for the binding and the subject; where it is everything, for all five. If it runs out of
-/// memory, a prefix of the line may have been added.
+/// Adds the line of a path (own): eleven fields, joined by tabs, with a newline at the end. The
+/// fields are the number of steps; the node, as who or what and where; the node before it,
+/// likewise; the step between them; the binding, its role, and the role where the rule is written;
+/// and the places of the rule in that role and of the subject in the binding, counted from 1. If
+/// the node before is a role, the binding and the subject are `-`; if it is everything, the last
+/// five fields are. If it runs out of memory, a prefix of the line may have been added.
 pub fn put_path(line: &mut Vec<u8>, path: &Path<'_>) -> Result<(), AllocError>
     ensures { OnOk result (line.new.items ≡ line.old.items ++ path_text path.now) }
 {
@@ -32,7 +32,7 @@ pub fn put_path(line: &mut Vec<u8>, path: &Path<'_>) -> Result<(), AllocError>
     put_reason(line, path.before, path.reason)
 }
 
-// Adds a number in decimal digits, and the tab after it.
+// Adds a number in decimal digits, and a tab.
 pub(crate) fn put_count(line: &mut Vec<u8>, count: usize) -> Result<(), AllocError>
     ensures { OnOk result (line.new.items ≡ line.old.items ++ decimal count ++ tab ∷ []) }
 {
@@ -42,7 +42,8 @@ pub(crate) fn put_count(line: &mut Vec<u8>, count: usize) -> Result<(), AllocErr
     Ok(())
 }
 
-// Adds why a node takes over another, to the end of the line.
+// Adds the last five fields of a line and its newline: the reason why the node takes over another
+// node, or allows a request.
 pub(crate) fn put_reason(
     line: &mut Vec<u8>,
     node: Node<'_>,
@@ -60,7 +61,7 @@ pub(crate) fn put_reason(
     }
 }
 
-// Adds the rule by which a role takes over another node.
+// Adds the last five fields and the newline for a role: its rule, without a binding and a subject.
 fn put_rule_line(
     line: &mut Vec<u8>,
     role: Node<'_>,
@@ -78,7 +79,7 @@ fn put_rule_line(
     put_end(line)
 }
 
-// Adds the role where a rule is written, and the tab after it.
+// Adds the role where a rule is written, and a tab.
 fn put_source(line: &mut Vec<u8>, source: SourceRole<'_>) -> Result<(), AllocError>
     ensures { OnOk result (line.new.items
         ≡ line.old.items ++ field_and_tab (source_name (source_of source.entry))) }
@@ -89,10 +90,11 @@ fn put_source(line: &mut Vec<u8>, source: SourceRole<'_>) -> Result<(), AllocErr
     }
 }
 
-// The end of the line where there is no binding, no role, no rule and no subject.
+// The last five fields and the newline for everything in a scope.
 const NONE_OF_IT: &[u8] = b"-\t-\t-\t-\t-\n";
 
-// Adds that there is no binding, no role, no rule and no subject.
+// Adds the last five fields and the newline for everything in a scope: no binding, role, rule or
+// subject.
 fn put_all_line(line: &mut Vec<u8>) -> Result<(), AllocError>
     ensures { OnOk result (line.new.items ≡ line.old.items ++ all_line) }
 {
@@ -100,7 +102,7 @@ fn put_all_line(line: &mut Vec<u8>) -> Result<(), AllocError>
     Ok(())
 }
 
-// Adds that there is no subject, and the end of the line.
+// Adds the field of a missing subject, and the newline.
 fn put_end(line: &mut Vec<u8>) -> Result<(), AllocError>
     ensures { OnOk result (line.new.items ≡ line.old.items ++ no_subject) }
 {

@@ -1,4 +1,4 @@
-//! Powers, one after another.
+//! Powers, and an iterator over them.
 
 ghost use Rattle.std.specs.Prelude.{◌≡◌};
 
@@ -9,17 +9,17 @@ use std::alloc::Global;
 use std::marker::Model;
 use std::vec::IntoIter;
 
-/// A step that a user or a group can take, where, and why. Contracts see its grant by what it refers
-/// to.
+/// A step that a user or a group can take, where, and by which grant (own). Contracts see the parts
+/// that the grant refers to.
 pub struct Power<'p> {
     /// The step.
     pub step: Step,
-    /// Who can take it: a key, `u:` and a user's name, or `g:` and a group's (own).
+    /// Who can take the step, as a key: `u:` and a user's name, or `g:` and a group's name (own).
     pub who: Word,
-    /// The first grant that gives it: in the namespace of the grant's binding, or, if that has none,
-    /// in the whole cluster.
+    /// The first grant that gives the step to this key there: in the namespace of the grant's
+    /// binding, or in the whole cluster if the binding has none.
     pub grant: Grant<'p>,
-    /// The place of the first subject with the key in the grant's binding, from 0.
+    /// The place, from 0, of the first subject with this key in the grant's binding.
     pub subject_place: usize,
 }
 
@@ -48,8 +48,8 @@ impl<'p> Model for Power<'p> {
     } };
 }
 
-/// The powers that weren't taken yet, in order of the table of steps, and then of who and where as
-/// they are printed (own). Contracts see the list of them.
+/// An iterator over powers, in order of the table of steps, and then of who and where, byte by byte
+/// as printed (own). Contracts see the list of the powers that it hasn't yielded yet.
 #[derive(Drop)]
 pub struct Powers<'p> {
     left: IntoIter<Power<'p>, Global>,
@@ -65,7 +65,7 @@ impl<'p> Model for Powers<'p> {
 }
 
 impl<'p> Powers<'p> {
-    // These powers.
+    // An iterator over these powers.
     pub(crate) fn of(powers: Vec<Power<'p>>) -> Self
         ensures { result ≡ powers.entry.items }
     {

@@ -1,4 +1,4 @@
-//! The users and groups that one asks about.
+//! The users and groups among the nodes.
 
 ghost use Rattle.std.specs.Prelude.{◌≢◌, ◌↔◌, AllPairs, Contains, IfOk, map};
 ghost use Rattle.rbac_terms.specs.Principals.{Who, who_key};
@@ -9,8 +9,8 @@ ghost use Rattle.rbac_paths.specs.Principals.{IsOneWith};
 use rbac_terms::Principal;
 use std::alloc::{AllocError, Global};
 
-/// These users and groups, with the one asked about in the place of the one with its key, which
-/// may have other groups (own). Fails only if it runs out of memory.
+/// These users and groups, with the principal `asked` in place of one with the same key, which may
+/// have other groups (own). Fails only if it runs out of memory.
 pub(crate) fn principals_with<'p>(
     alloc: Global,
     principals: &'p [Principal],

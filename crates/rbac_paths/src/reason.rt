@@ -1,4 +1,4 @@
-//! Why a node can take over another, or is allowed what is asked for.
+//! Reasons: the grant or the rule by which a node takes over another node, or allows a request.
 
 ghost use Rattle.std.specs.Prelude.{◌≡◌, ◌≤◌, ◌<◌, ◌↔◌, All, Any, Contains, IfOk, IsSomeAnd, IsTrue, List, MatchOption};
 ghost use Rattle.std.specs.Prelude.{◌++◌, ◌∷◌, [], length, ℕ};
@@ -24,20 +24,21 @@ use rbac_subjects::SubjectIndex;
 use rbac_terms::{ClusterRole, Principal, Role, Rules, Word};
 use std::alloc::{AllocError, Global};
 
-/// Why a node can take over another by a step, or is allowed what is asked for (own).
+/// Why a node takes over another node by a step, or allows a request (own).
 #[derive(Clone, Copy)]
 pub enum Reason<'p> {
-    /// A user or a group by this grant, the first that lets it: with the place, from 0, of the first
-    /// subject of the grant's binding that names it.
+    /// For a user or a group: the first grant that allows it the step or the request, and the
+    /// place, from 0, of the first subject of the grant's binding that names the user or the group.
     Grant(Grant<'p>, usize),
-    /// A role by a rule, the first that lets it: with the role where the rule is written, and its
-    /// place there, from 0.
+    /// For a role: its first rule that allows the step or the request, by the role where the rule
+    /// is written and the rule's place in that role, from 0.
     Rule(SourceRole<'p>, usize),
-    /// Everything in a scope by having it.
+    /// For everything in a scope, which allows each request there.
     All,
 }
 
-/// Why a node can; `None` only if it can't. Fails only if it runs out of memory.
+/// The reason why the node `from` attains the aim; `None` only if it doesn't. For everything in a
+/// scope the result is always `Reason::All`. Fails only if it runs out of memory.
 pub(crate) fn reason_of<'p>(
     alloc: Global,
     policy: &'p Policy,
@@ -60,8 +61,9 @@ pub(crate) fn reason_of<'p>(
     }
 }
 
-/// Why a node takes over another by the step of these rows, where the grants with these numbers are
-/// somebody's that match rows of some steps, this one among them.
+/// The reason why the node `from` takes over the node `to` by the step of these rows; `None` only
+/// if it doesn't. If `from` is a user or a group, `numbers` has exactly the numbers of its grants
+/// whose rules match a row of some steps, and this step is one of them.
 pub(crate) fn reason_by<'p>(
     alloc: Global,
     policy: &'p Policy,
@@ -88,7 +90,7 @@ pub(crate) fn reason_by<'p>(
     }
 }
 
-// The grant among these by which somebody takes over a node.
+// The first of a principal's grants by which it takes over the node `to`, as a reason.
 fn by_numbers<'p>(
     alloc: Global,
     policy: &'p Policy,
@@ -113,7 +115,7 @@ fn by_numbers<'p>(
     Ok(by_number(policy, who, no))
 }
 
-// The least of these numbers of grants whose rules allow some of what is asked.
+// The least of these numbers whose grant allows a request of one of these rows.
 fn least_taking(policy: &Policy, numbers: &[u32], asked: &[AskedRow<'_>]) -> Option<u32>
     requires { All (λ n. n < length policy.now.grants) numbers.now }
     ensures { (step : Step) (y : NodeView) → AreAskedBy step y asked.now
@@ -126,7 +128,8 @@ fn least_taking(policy: &Policy, numbers: &[u32], asked: &[AskedRow<'_>]) -> Opt
     least
 }
 
-// The least so far, or this number, if it is less and the grant's rule allows some of what is asked.
+// This number, if it is less than the least so far and its grant allows a request of one of these
+// rows; otherwise the least so far.
 fn lesser_taking(
     policy: &Policy,
     least: Option<u32>,
@@ -148,14 +151,14 @@ fn lesser_taking(
     }
 }
 
-// Whether the holding allows some of what is asked.
+// Whether the holding allows a request of one of these rows.
 fn some_allowed(asked: &[AskedRow<'_>], held: &Holding<'_>) -> bool
     ensures { IsTrue result ↔ Any (AllowsAskedRow held.now) asked.now }
 {
     asked.iter().any(|row| row.is_allowed_by(held))
 }
 
-// Whether the number is less than the other, if that is there.
+// Whether the number is less than the other; true if there is no other.
 fn is_less(number: u32, other: Option<u32>) -> bool
     ensures { IsTrue result ↔ MatchOption other (Unit {0}) (λ n. number < n) }
 {
@@ -165,7 +168,7 @@ fn is_less(number: u32, other: Option<u32>) -> bool
     }
 }
 
-// The grant by which somebody can.
+// The first grant by which a principal attains the aim, as a reason.
 fn by_grant<'p>(
     policy: &'p Policy,
     index: &SubjectIndex<'p>,
@@ -182,7 +185,8 @@ fn by_grant<'p>(
     by_number(policy, who, no)
 }
 
-// The grant with this number, by which somebody can, and the subject that names them.
+// The grant with this number as a reason, with the first subject of its binding that names the
+// principal.
 fn by_number<'p>(policy: &'p Policy, who: &Principal, no: u32) -> Option<Reason<'p>>
     requires { no < length policy.now.grants }
     ensures { (aim : AimView) (g : GrantView)
@@ -194,7 +198,7 @@ fn by_number<'p>(policy: &'p Policy, who: &Principal, no: u32) -> Option<Reason<
     Some(Reason::Grant(grant, subject))
 }
 
-// The number of the first grant by which somebody can.
+// The number of the first grant by which a principal attains the aim.
 fn first_serving(
     policy: &Policy,
     index: &SubjectIndex<'_>,
@@ -214,7 +218,7 @@ fn first_serving(
     None
 }
 
-// The first of the grants numbered from `start` up to `end` whose rule lets it.
+// The number of the first of the grants `start..end` whose rule serves the aim.
 fn first_in_run(policy: &Policy, start: u32, end: u32, aim: Aim<'_>) -> Option<u32>
     requires ordered { start ≤ end }
     requires within { end ≤ length policy.now.grants }
@@ -228,7 +232,7 @@ fn first_in_run(policy: &Policy, start: u32, end: u32, aim: Aim<'_>) -> Option<u
     None
 }
 
-// The rule by which a role can where it is bound.
+// The first rule by which a Role, bound in its namespace, attains the aim, as a reason.
 fn by_role<'p>(policy: &Policy, aim: Aim<'_>, role: &'p Role) -> Option<Reason<'p>>
     requires { IsPolicy policy.now }
     ensures { MatchOption result
@@ -239,7 +243,8 @@ fn by_role<'p>(policy: &Policy, aim: Aim<'_>, role: &'p Role) -> Option<Reason<'
     Some(Reason::Rule(SourceRole::Role(role), place))
 }
 
-// The rule by which a cluster role can where it is bound: its own, or one that it gathers.
+// The first rule by which a cluster role, bound in this scope, attains the aim, as a reason. It is
+// a rule that is written in the role, or one that the role gathers.
 fn by_cluster_role<'p>(
     alloc: Global,
     policy: &'p Policy,
@@ -265,8 +270,8 @@ fn by_cluster_role<'p>(
     Ok(None)
 }
 
-// The place of the first of these rules that lets it where a binding in this namespace, or in none, is
-// live.
+// The place of the first of these rules that serves the aim if the rules count in `home`: in this
+// namespace, or in the whole cluster if there is none.
 fn first_rule(aim: Aim<'_>, home: Option<&Word>, rules: &Rules) -> Option<usize>
     ensures { MatchOption result
         (¬ Any (Serves (aim_of aim.entry) (option_copied home.entry)) rules.now)

@@ -1,4 +1,5 @@
-//! The rows of the table of steps, with their texts as words, and which rules allow what they say.
+//! The rows of the table of steps, with their texts as words, and which rules allow the requests of
+//! a row.
 
 ghost use Rattle.std.specs.Prelude.{◌≡◌, ◌↔◌, IsTrue, IfOk, OnOk, Any, map};
 ghost use Rattle.std.specs.Option.{option_copied};
@@ -26,7 +27,7 @@ use rbac_terms::{Rule, Word, Words, group_matches, resource_matches, verb_matche
 use std::alloc::{AllocError, Global};
 use std::marker::Model;
 
-/// A row of the table, its texts as words.
+/// A row of the table, with its texts as words.
 pub(crate) struct WordRow {
     step: Step,
     names: Names,
@@ -67,7 +68,7 @@ impl Model for WordRow {
     } };
 }
 
-/// A row that is over a node, with what its requests that take over the node ask.
+/// A row that can take over a node, with the namespace and the name in its requests that do.
 #[derive(Drop)]
 pub(crate) struct AskedRow<'a> {
     row: &'a WordRow,
@@ -84,7 +85,7 @@ impl<'a> Model for AskedRow<'a> {
 }
 
 impl<'a> AskedRow<'a> {
-    // Whether the holding allows some of the requests.
+    // Whether the holding allows one of these requests.
     pub(crate) fn is_allowed_by(&self, held: &Holding<'_>) -> bool
         ensures { IsTrue result ↔ AllowsAskedRow held.now self.now }
     {
@@ -107,7 +108,7 @@ impl WordRow {
         })
     }
 
-    // What is taken over by the row, and where and for which names that counts.
+    // What the row takes over, where its requests count, and which object names they have.
     pub(crate) fn takeover(&self) -> Takeover
         ensures { result ≡ takeover_of self.now }
     {
@@ -118,7 +119,8 @@ impl WordRow {
         }
     }
 
-    // Whether the row counts where a binding in this namespace, or in none, is live.
+    // Whether the row counts for a binding in this namespace, or for a ClusterRoleBinding if there
+    // is none.
     pub(crate) fn counts_in(&self, namespace: Option<&Word>) -> bool
         ensures { IsTrue result ↔ CountsIn self.now (option_copied namespace.entry) }
     {
@@ -128,16 +130,17 @@ impl WordRow {
         }
     }
 
-    // Whether the rule allows some request of the row.
+    // Whether the rule allows a request of the row.
     pub(crate) fn is_allowed_by(&self, rule: &Rule) -> bool
         ensures { IsTrue result ↔ AllowsRow self.now rule.now }
     {
         self.matches(rule) && self.has_name_of(rule)
     }
 
-    // Whether the holding allows some request of the row that takes over the node.
+    // Whether the holding allows a request of the row that takes over the node.
     pub(crate) fn is_taken_by(&self, held: &Holding<'_>, node: Node<'_>) -> bool
-        ensures { IsTrue result ↔ RowTakes self.now held.now.home held.now.rule (node_of node.entry) }
+        ensures { IsTrue result
+            ↔ RowTakes self.now held.now.home held.now.rule (node_of node.entry) }
     {
         match self.asked_of(node) {
             Some(asked) => self.is_asked_by(held, asked.namespace, asked.own),
@@ -145,8 +148,8 @@ impl WordRow {
         }
     }
 
-    // Whether some of these holdings does. What such requests ask is found once, and not again for
-    // each holding.
+    // Whether one of these holdings allows a request of the row that takes over the node. The
+    // namespace and the name in such requests are found once, and not again for each holding.
     pub(crate) fn is_taken_by_some(&self, holdings: &[Holding<'_>], node: Node<'_>) -> bool
         ensures { IsTrue result
             ↔ Any (λ h. RowTakes self.now h.home h.rule (node_of node.entry)) holdings.now }
@@ -157,8 +160,8 @@ impl WordRow {
         }
     }
 
-    // Whether some of these holdings allows some request of the row in that namespace for what has that
-    // name.
+    // Whether one of these holdings allows a request of the row in this namespace for a node with
+    // this name.
     fn is_asked_by_some(&self, holdings: &[Holding<'_>], namespace: &[u8], own: &[u8]) -> bool
         ensures { IsTrue result ↔ Any (AllowsAsked self.now namespace.now own.now) holdings.now }
     {
@@ -167,14 +170,15 @@ impl WordRow {
             .any(|held| self.is_asked_by(held, namespace, own))
     }
 
-    // Whether the holding allows some request of the row in that namespace for what has that name.
+    // Whether the holding allows a request of the row in this namespace for a node with this name.
     fn is_asked_by(&self, held: &Holding<'_>, namespace: &[u8], own: &[u8]) -> bool
         ensures { IsTrue result ↔ AllowsAsked self.now namespace.now own.now held.now }
     {
         self.is_live(held.home, namespace) && self.is_allowed_for(held.rule, own)
     }
 
-    // The row with what its requests that take over the node ask, if it is over that.
+    // The row, with the namespace and the name in its requests that take over the node; `None` if
+    // the row can't take over the node.
     pub(crate) fn asked_for<'a>(&'a self, node: Node<'a>) -> Option<AskedRow<'a>>
         ensures { RowAsks self.now (node_of node.entry) result }
     {
@@ -188,7 +192,8 @@ impl WordRow {
         }
     }
 
-    // What requests of the row that take over the node ask.
+    // The namespace and the name in the row's requests that take over the node; `None` if the row
+    // can't take over the node.
     fn asked_of<'p>(&self, node: Node<'p>) -> Option<Asked<'p>>
         ensures { Asks (IsOver self.now.over self.now.counts (node_of node.entry)) result }
     {
@@ -202,7 +207,8 @@ impl WordRow {
         }
     }
 
-    // Whether a binding in that namespace, or in none, is live where the row's requests are asked.
+    // Whether a binding in the namespace `home`, or a ClusterRoleBinding if there is none, is live
+    // for the row's requests in `namespace`.
     fn is_live(&self, home: Option<&Word>, namespace: &[u8]) -> bool
         ensures { (text name : Text) → IsTrue result ↔ Live (option_copied home.entry)
             (asked_in self.now.counts namespace.now) (Resource self.now.group text name) }
@@ -217,14 +223,15 @@ impl WordRow {
         }
     }
 
-    // Whether the rule allows some request of the row for what has that name.
+    // Whether the rule allows a request of the row for a node with this name.
     fn is_allowed_for(&self, rule: &Rule, own: &[u8]) -> bool
         ensures { IsTrue result ↔ AllowsRowFor self.now own.now rule.now }
     {
         self.matches(rule) && self.has_name_for(rule, own)
     }
 
-    // Whether the rule's names match the object name of a request of the row for what has that name.
+    // Whether the rule's object names match an object name in the row's requests for a node with
+    // this name.
     fn has_name_for(&self, rule: &Rule, own: &[u8]) -> bool
         ensures { IsTrue result ↔ HasRowNameFor self.now.names own.now rule.now }
     {
@@ -235,15 +242,15 @@ impl WordRow {
         }
     }
 
-    // Whether the rule matches a verb, the API group and a resource of the row. Most rules are of one
-    // group, and so refused by that first.
+    // Whether the rule matches a verb, the API group and a resource of the row. The group is
+    // compared first: most rules have one group, and it isn't the row's.
     pub(crate) fn matches(&self, rule: &Rule) -> bool
         ensures { IsTrue result ↔ MatchesRow self.now rule.now }
     {
         group_matches(rule, &self.group) && self.has_verb_of(rule) && self.has_resource_of(rule)
     }
 
-    // Whether the rule matches some verb of the row.
+    // Whether the rule matches one of the row's verbs.
     fn has_verb_of(&self, rule: &Rule) -> bool
         ensures { IsTrue result ↔ Any (VerbOk rule.now) self.now.verbs }
     {
@@ -253,7 +260,7 @@ impl WordRow {
             .any(|verb| verb_matches(rule, verb))
     }
 
-    // Whether the rule matches some resource of the row, API groups aside.
+    // Whether the rule matches one of the row's resources, whatever the API group.
     fn has_resource_of(&self, rule: &Rule) -> bool
         ensures { IsTrue result ↔ Any (HasRowResource rule.now) self.now.resources }
     {
@@ -263,7 +270,7 @@ impl WordRow {
             .any(|text| resource_matches(rule, text))
     }
 
-    // Whether the rule's names match some object name of the row's requests.
+    // Whether the rule's object names match an object name that a request of the row can have.
     fn has_name_of(&self, rule: &Rule) -> bool
         ensures { IsTrue result ↔ HasRowName self.now.names rule.now }
     {
@@ -274,14 +281,14 @@ impl WordRow {
     }
 }
 
-// Whether the rule's names match this object name.
+// Whether the rule's object names match this one, which is empty if the request has no object name.
 pub(crate) fn has_name(rule: &Rule, name: &[u8]) -> bool
     ensures { IsTrue result ↔ NameMatches rule.now.resource_names name.now }
 {
     rule.resource_names.is_empty() || rule.resource_names.contains_bytes(name)
 }
 
-// The texts as words.
+// These texts as words.
 fn words_of(alloc: Global, texts: &[&str]) -> Result<Words, AllocError>
     ensures { IfOk result (λ words. words ≡ map (λ t. t.now) texts.now) }
 {
@@ -299,7 +306,7 @@ pub(crate) fn rows_of(alloc: Global, step: Step) -> Result<Vec<WordRow>, AllocEr
     rows_among(alloc, &TABLE, step)
 }
 
-// Those of these rows that are of a step.
+// The rows of a step among these rows.
 fn rows_among(alloc: Global, all: &[Row], step: Step) -> Result<Vec<WordRow>, AllocError>
     ensures { IfOk result (λ rows. AreOfStep step (map row_view all.now) rows.items) }
 {
@@ -310,7 +317,7 @@ fn rows_among(alloc: Global, all: &[Row], step: Step) -> Result<Vec<WordRow>, Al
     Ok(rows)
 }
 
-// Adds the row if it is of the step.
+// Adds the row if it is a row of the step.
 fn add_row(alloc: Global, row: &Row, step: Step, rows: &mut Vec<WordRow>) -> Result<(), AllocError>
     ensures { OnOk result (AddsRow step (row_view row.now) rows.old.items rows.new.items) }
 {

@@ -1,5 +1,5 @@
-//! What each rule of each role takes over by some steps. Each rule is asked once, however many
-//! bindings grant it.
+//! What each rule of each role takes over by some steps. Each rule is compared with the table once,
+//! however many bindings grant it.
 
 ghost use Rattle.std.specs.Prelude.{◌≡◌, IfOk, Some, [], slice_get, slice_index_or, ℕ};
 ghost use Rattle.rbac_terms.specs.declared.granting.ClusterRole.{ClusterRole};
@@ -14,10 +14,10 @@ use rbac_terms::{ClusterRole, Items, Role, Rule};
 use std::alloc::{AllocError, Global};
 use std::marker::Model;
 
-// What each of some rules takes over.
+// What each rule of a list takes over.
 type OfEach = Items<Items<Takeover>>;
 
-/// For each role of each kind, what each of its rules takes over.
+/// For each Role and each cluster role of a policy, what each of its rules takes over.
 pub(crate) struct RuleTakeovers {
     roles: Vec<OfEach>,
     cluster_roles: Vec<OfEach>,
@@ -41,7 +41,7 @@ impl Model for RuleTakeovers {
 }
 
 impl RuleTakeovers {
-    /// What the rules of these roles take over by these steps.
+    /// What each rule of these roles takes over by these steps.
     pub(crate) fn of_roles(
         alloc: Global,
         objects: &Objects,
@@ -62,7 +62,7 @@ impl RuleTakeovers {
         listed_at(self.of_role(grant.role), grant.rule)
     }
 
-    // What each rule of the role at this place takes over; nothing past the last role.
+    // What each rule of the role at this place takes over; empty past the last role.
     fn of_role(&self, role: RolePlace) -> &[Items<Takeover>]
         ensures { result.now ≡ takeovers_at self.now role }
     {
@@ -73,7 +73,7 @@ impl RuleTakeovers {
     }
 }
 
-// What each rule of each of these roles takes over.
+// What each rule of each of these Roles takes over.
 fn all_of_roles(
     alloc: Global,
     roles: &[Role],
@@ -89,7 +89,7 @@ fn all_of_roles(
     Ok(all)
 }
 
-// The same of cluster roles.
+// What each rule of each of these cluster roles takes over.
 fn all_of_cluster_roles(
     alloc: Global,
     roles: &[ClusterRole],

@@ -1,13 +1,14 @@
-//! The steps by which one takes over another.
+//! The steps by which one node takes over another.
 
 ghost use Rattle.std.specs.Prelude.{◌≡◌};
 ghost use Rattle.rbac_paths.specs.Steps.{step_word};
 
-/// A step by which one comes to act as another (Role Based Access Control Good Practices). Which
-/// requests each takes is told by the table of steps.
+/// A step by which a user or a group acts as somebody else, or gets more than its own rules allow
+/// (Role Based Access Control Good Practices). The table of steps lists the requests of each step
+/// (own).
 #[derive(Clone, Copy, PartialEq, Eq, Debug, Drop)]
 pub enum Step {
-    /// Acts as another by impersonation.
+    /// Acts as somebody else by impersonation.
     Impersonate,
     /// Asks for a token of a service account.
     Token,
@@ -15,17 +16,17 @@ pub enum Step {
     Run,
     /// Gets into a container that runs as a service account.
     Exec,
-    /// Reads secrets, among which tokens of service accounts can be.
+    /// Reads secrets, which may contain tokens of service accounts.
     Secrets,
-    /// Reaches each container of a node through its kubelet.
+    /// Gets into the containers on a Kubernetes node, through the node's kubelet.
     Nodes,
-    /// Binds roles that it doesn't have.
+    /// Binds roles with rules that it doesn't have itself.
     Bind,
-    /// Writes rules that it doesn't have.
+    /// Writes rules that it doesn't have itself into roles.
     Escalate,
-    /// Approves certificates that sign in as anyone.
+    /// Approves certificates, by which one can sign in as anyone.
     Certificates,
-    /// Changes what others write, or reads it.
+    /// Changes or reads what others write, through admission webhooks.
     Webhooks,
 }
 
@@ -44,7 +45,7 @@ impl Step {
         Step::Webhooks,
     ];
 
-    /// The word for the step (own).
+    /// The word for the step, as it is printed and given on a command line (own).
     #[tactic(auto, unfolding(crate::specs::Steps::step_word))]
     pub fn word(self) -> &'static [u8]
         ensures { result.now ≡ step_word self }

@@ -1,22 +1,22 @@
-//! The table of steps: which requests each step takes.
+//! The table of steps: the requests of each step, and what they take over.
 
 use crate::steps::Step;
 
 /// Which object names the requests of a row have.
 #[derive(Clone, Copy, PartialEq, Eq, Drop)]
 pub(crate) enum Names {
-    /// None: a rule that is limited to names doesn't count.
+    /// No name: a rule that is limited to names doesn't count.
     None,
-    /// The name of what is taken over.
+    /// The name of the node that is taken over.
     Own,
-    /// Any: a rule counts whatever its names are.
+    /// Any name: a rule counts whatever its names are.
     Any,
 }
 
 /// What a row takes over.
 #[derive(Clone, Copy, PartialEq, Eq, Drop)]
 pub(crate) enum Over {
-    /// Users, but for service accounts.
+    /// Users, except service accounts.
     Users,
     /// Groups.
     Groups,
@@ -26,20 +26,21 @@ pub(crate) enum Over {
     Everything,
     /// Cluster roles, bound in a scope.
     ClusterRoles,
-    /// Roles of a namespace, bound there.
+    /// Roles, bound in their own namespace.
     Roles,
 }
 
 /// Where the requests of a row count.
 #[derive(Clone, Copy, PartialEq, Eq, Drop)]
 pub(crate) enum Counts {
-    /// In the whole cluster alone.
+    /// Only in the whole cluster.
     ClusterWide,
-    /// Also in a namespace.
+    /// In the whole cluster, and in a namespace.
     InNamespaces,
 }
 
-/// A row of the table: each of some verbs on each of some resources of an API group.
+/// A row of the table. Its requests are each of its verbs on each of its resources in its API
+/// group.
 pub(crate) struct Row {
     pub(crate) step: Step,
     pub(crate) names: Names,
@@ -56,7 +57,8 @@ const RBAC: &str = "rbac.authorization.k8s.io";
 // The verbs that write an object.
 const WRITE: &[&str] = &["create", "update", "patch"];
 
-// The table of steps (Role Based Access Control Good Practices; own).
+// The table of steps. The Kubernetes page names the steps (Role Based Access Control Good
+// Practices); this project chooses their requests (own).
 pub(crate) const TABLE: [Row; 20] = [
     Row {
         step: Step::Impersonate,

@@ -13,8 +13,8 @@ use crate::told::StepRows;
 use rbac_terms::{Items, Rule};
 use std::alloc::{AllocError, Global};
 
-/// What is taken over by a row of the table, and where and for which names that counts. Many rows
-/// have the same.
+/// What a row of the table takes over, where its requests count, and which object names they have.
+/// Many rows have the same takeover: for example, all rows of `run`, `exec` and `secrets`.
 #[derive(Clone, Copy, PartialEq, Eq, Drop)]
 pub(crate) struct Takeover {
     pub(crate) names: Names,
@@ -22,7 +22,7 @@ pub(crate) struct Takeover {
     pub(crate) over: Over,
 }
 
-/// What a rule takes over by the rows of these steps that it matches, each once.
+/// What a rule takes over by the rows of these steps that it matches, each takeover once.
 pub(crate) fn takeovers_of(
     alloc: Global,
     steps: &[StepRows],
@@ -37,7 +37,7 @@ pub(crate) fn takeovers_of(
     Ok(Items::from_vec(all))
 }
 
-// Adds what the rule takes over by rows of the step.
+// Adds what the rule takes over by the rows of this step.
 fn add_of_step(step: &StepRows, rule: &Rule, all: &mut Vec<Takeover>) -> Result<(), AllocError>
     ensures { OnOk result (AddsWhere
         (λ t. HasTakeover rule.now t step.now) all.old.items all.new.items) }
@@ -48,10 +48,12 @@ fn add_of_step(step: &StepRows, rule: &Rule, all: &mut Vec<Takeover>) -> Result<
     Ok(())
 }
 
-// Adds what the rule takes over by the row. The row isn't asked if that is known already.
+// Adds what the rule takes over by the row, if it matches the row. If the same takeover was added
+// before, the rule isn't compared with the row.
 fn add_of_row(row: &WordRow, rule: &Rule, all: &mut Vec<Takeover>) -> Result<(), AllocError>
     ensures { OnOk result (AddsWhere
-        (λ t. (takeover_of row.now ≡ t) × MatchesRow row.now rule.now) all.old.items all.new.items) }
+        (λ t. (takeover_of row.now ≡ t) × MatchesRow row.now rule.now)
+        all.old.items all.new.items) }
 {
     let takeover = row.takeover();
     if !all.contains(&takeover) && row.matches(rule) {
@@ -60,14 +62,14 @@ fn add_of_row(row: &WordRow, rule: &Rule, all: &mut Vec<Takeover>) -> Result<(),
     Ok(())
 }
 
-/// Whether some of these is over roles or everything.
+/// Whether one of these takeovers is of roles or of everything.
 pub(crate) fn some_is_over_nobody(all: &[Takeover]) -> bool
     ensures { IsTrue result ↔ Any (λ t. IsOverNobody t.over) all.now }
 {
     all.iter().any(|takeover| is_over_nobody(takeover.over))
 }
 
-// Whether what is taken over is no user and no group.
+// Whether this is roles or everything, and not users, groups or service accounts.
 fn is_over_nobody(over: Over) -> bool
     ensures { IsTrue result ↔ IsOverNobody over }
 {

@@ -1,4 +1,4 @@
-//! Which rules take over which nodes, by the rows of the table.
+//! The namespace and the name in requests that take over a node, by what a row takes over.
 
 ghost use Rattle.std.specs.Prelude.{◌≡◌, ◌↔◌, IsTrue, MatchOption};
 ghost use Rattle.std.specs.Option.{option_copied};
@@ -13,15 +13,15 @@ use crate::node::Node;
 use crate::table::Counts;
 use rbac_terms::{Principal, Word};
 
-// What the requests that take over a node ask: where (in the empty namespace: in the whole cluster),
-// and for what name.
+// The namespace and the name in requests that take over a node: where they are made, in the empty
+// namespace if that is the whole cluster, and the node's own name.
 #[derive(Clone, Copy)]
 pub(crate) struct Asked<'p> {
     pub(crate) namespace: &'p [u8],
     pub(crate) own: &'p [u8],
 }
 
-// What is asked for a user who is no service account.
+// The namespace and the name for a user who is no service account; `None` for any other node.
 pub(crate) fn for_user(node: Node<'_>) -> Option<Asked<'_>>
     ensures { (counts : Counts) → Asks (IsOver over.Users counts (node_of node.entry)) result }
 {
@@ -31,7 +31,7 @@ pub(crate) fn for_user(node: Node<'_>) -> Option<Asked<'_>>
     }
 }
 
-// What is asked for this user, if it is one and no service account.
+// The namespace and the name for this principal, if it is a user and no service account.
 fn for_plain_user(who: &Principal) -> Option<Asked<'_>>
     ensures { (counts : Counts) → Asks (IsOver over.Users counts (Somebody who.now)) result }
 {
@@ -45,7 +45,7 @@ fn for_plain_user(who: &Principal) -> Option<Asked<'_>>
     }
 }
 
-// What is asked for a group.
+// The namespace and the name for a group; `None` for any other node.
 pub(crate) fn for_group(node: Node<'_>) -> Option<Asked<'_>>
     ensures { (counts : Counts) → Asks (IsOver over.Groups counts (node_of node.entry)) result }
 {
@@ -58,7 +58,7 @@ pub(crate) fn for_group(node: Node<'_>) -> Option<Asked<'_>>
     }
 }
 
-// What is asked for a service account.
+// The namespace and the name for a service account; `None` for any other node.
 pub(crate) fn for_account(node: Node<'_>) -> Option<Asked<'_>>
     ensures { (counts : Counts) → Asks (IsOver over.Accounts counts (node_of node.entry)) result }
 {
@@ -71,7 +71,8 @@ pub(crate) fn for_account(node: Node<'_>) -> Option<Asked<'_>>
     }
 }
 
-// What is asked for everything in a scope.
+// The namespace and the name for everything in a scope, which has no name; `None` for any other
+// node. A row that counts only in the whole cluster takes over nothing in a namespace.
 pub(crate) fn for_everything(counts: Counts, node: Node<'_>) -> Option<Asked<'_>>
     ensures { Asks (IsOver over.Everything counts (node_of node.entry)) result }
 {
@@ -86,9 +87,10 @@ pub(crate) fn for_everything(counts: Counts, node: Node<'_>) -> Option<Asked<'_>
     }
 }
 
-// What is asked for a cluster role in a scope.
+// The namespace and the name for a cluster role in a scope; `None` for any other node.
 pub(crate) fn for_cluster_role(node: Node<'_>) -> Option<Asked<'_>>
-    ensures { (counts : Counts) → Asks (IsOver over.ClusterRoles counts (node_of node.entry)) result }
+    ensures { (counts : Counts)
+        → Asks (IsOver over.ClusterRoles counts (node_of node.entry)) result }
 {
     match node {
         Node::ClusterRole(role, scope) => Some(Asked {
@@ -99,7 +101,7 @@ pub(crate) fn for_cluster_role(node: Node<'_>) -> Option<Asked<'_>>
     }
 }
 
-// What is asked for a role in its namespace.
+// The namespace and the name for a Role in its namespace; `None` for any other node.
 pub(crate) fn for_role(node: Node<'_>) -> Option<Asked<'_>>
     ensures { (counts : Counts) → Asks (IsOver over.Roles counts (node_of node.entry)) result }
 {
@@ -112,7 +114,7 @@ pub(crate) fn for_role(node: Node<'_>) -> Option<Asked<'_>>
     }
 }
 
-// The namespace that stands for a scope; the empty one stands for the whole cluster.
+// The namespace of a scope; empty for the whole cluster.
 pub(crate) fn scope_namespace(scope: Option<&Word>) -> &[u8]
     ensures { result.now ≡ scope_namespace (option_copied scope.entry) }
 {
@@ -129,16 +131,17 @@ pub(crate) fn is_user(who: &Principal) -> bool
     who.key().as_bytes().first() == Some(&b'u')
 }
 
-// The namespace and the name of a service account.
+// The namespace and the name of a service account; `None` if this is no service account.
 pub(crate) fn account_parts(who: &Principal) -> Option<(&[u8], &[u8])>
     ensures { MatchOption result
         ((n m : Text) → ¬ IsAccountNamed who.now n m)
-        (λ parts. (n m : Text) → IsAccountNamed who.now n m ↔ ((n ≡ parts.0.now) × (m ≡ parts.1.now))) }
+        (λ parts. (n m : Text) → IsAccountNamed who.now n m
+        ↔ ((n ≡ parts.0.now) × (m ≡ parts.1.now))) }
 {
     let namespace = who.account_namespace()?;
     let parts = who.name().get(ACCOUNT + namespace.len() + 1..)?;
     Some((namespace, parts))
 }
 
-// How long the prefix of a service account's user name is.
+// The length of the prefix of a service account's user name, in bytes.
 const ACCOUNT: usize = b"system:serviceaccount:".len();

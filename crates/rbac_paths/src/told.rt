@@ -1,4 +1,5 @@
-//! By which steps one node takes over another, as is told.
+//! By which step one node takes over another. `bind` and `escalate` leave out nodes that are
+//! included in others: such a node doesn't count as taken over by these steps.
 
 ghost use Rattle.std.specs.Prelude.{◌≡◌, ◌↔◌, ◌⊎◌, Any, IfOk, IsTrue, MatchOption, None, Some};
 ghost use Rattle.std.specs.Option.{option_copied};
@@ -22,7 +23,7 @@ use rbac_terms::{ClusterRole, Word};
 use std::alloc::{AllocError, Global};
 use std::marker::Model;
 
-/// A step, with the rows of the table that are of it. Contracts see the step.
+/// A step, with its rows of the table. Contracts see the step alone.
 #[derive(Drop)]
 pub(crate) struct StepRows {
     step: Step,
@@ -50,7 +51,7 @@ impl StepRows {
         Ok(StepRows { step, rows })
     }
 
-    // The rows of the table that are of the step.
+    // The rows of the step.
     pub(crate) fn rows(&self) -> &[WordRow]
         ensures { AreOfStep self.now table result.now }
     {
@@ -64,15 +65,15 @@ impl StepRows {
         self.step
     }
 
-    // Whether a node that has these takes over the other by the step.
+    // Whether a node with these holdings can take over the node `to` by the step.
     fn takes(&self, holdings: &[Holding<'_>], to: Node<'_>) -> bool
         ensures { IsTrue result ↔ HoldingsTake self.now holdings.now (node_of to.entry) }
     {
         some_takes(self.rows.as_slice(), holdings, to)
     }
 
-    // The rows of the step that are over the node, with what their requests ask. So that is found once,
-    // and not again for each holding.
+    // The rows of the step that can take over the node, each with the namespace and the name in its
+    // requests that do. These are found once, and not again for each holding.
     pub(crate) fn asked_for<'a>(
         &'a self,
         alloc: Global,
@@ -83,7 +84,7 @@ impl StepRows {
         asked_rows(alloc, self.rows.as_slice(), to)
     }
 
-    // Whether this rule takes over the node by the step.
+    // Whether the holding allows a request of the step that takes over the node.
     pub(crate) fn is_taken_by(&self, held: &Holding<'_>, to: Node<'_>) -> bool
         ensures { IsTrue result ↔ HoldingTakes self.now held.now (node_of to.entry) }
     {
@@ -91,7 +92,7 @@ impl StepRows {
     }
 }
 
-// Whether the holding takes over a node by some of these rows.
+// Whether the holding allows a request of one of these rows that takes over the node.
 fn takes_some(rows: &[WordRow], held: &Holding<'_>, node: Node<'_>) -> bool
     ensures { IsTrue result
         ↔ Any (λ row. RowTakes row held.now.home held.now.rule (node_of node.entry)) rows.now }
@@ -99,15 +100,17 @@ fn takes_some(rows: &[WordRow], held: &Holding<'_>, node: Node<'_>) -> bool
     rows.iter().any(|row| row.is_taken_by(held, node))
 }
 
-// Whether some of these holdings takes over a node by some of these rows.
+// Whether one of these holdings allows a request of one of these rows that takes over the node.
 fn some_takes(rows: &[WordRow], holdings: &[Holding<'_>], node: Node<'_>) -> bool
     ensures { IsTrue result
-        ↔ Any (λ row. Any (λ h. RowTakes row h.home h.rule (node_of node.entry)) holdings.now) rows.now }
+        ↔ Any (λ row. Any (λ h. RowTakes row h.home h.rule (node_of node.entry)) holdings.now)
+        rows.now }
 {
     rows.iter().any(|row| row.is_taken_by_some(holdings, node))
 }
 
-// Those of these rows that are over the node, with what their requests ask.
+// The rows among these that can take over the node, each with the namespace and the name in its
+// requests that do.
 fn asked_rows<'a>(
     alloc: Global,
     rows: &'a [WordRow],
@@ -135,8 +138,8 @@ pub(crate) fn rows_of_steps(alloc: Global, steps: &[Step]) -> Result<Vec<StepRow
     Ok(all)
 }
 
-/// The first of these steps by which a node takes over another, as is told; the holdings of the first,
-/// or as many of them as decide that. `None` exactly if there is none.
+/// The first of these steps by which the node `from` takes over the node `to`; `None` exactly if it
+/// doesn't. `holdings` are the holdings of `from`, or enough of them to decide that.
 pub(crate) fn first_told<'s>(
     steps: &'s [StepRows],
     holdings: &[Holding<'_>],
@@ -160,7 +163,8 @@ pub(crate) fn first_told<'s>(
     None
 }
 
-// Whether a node goes on to the other.
+// Whether the node `from` may lead to the node `to`. Everything in the whole cluster leads no
+// further, and everything in a namespace leads only to users and groups.
 fn goes_on(from: Node<'_>, to: Node<'_>) -> bool
     ensures { IsTrue result ↔ MayGoOn (node_of from.entry) (node_of to.entry) }
 {
@@ -171,7 +175,8 @@ fn goes_on(from: Node<'_>, to: Node<'_>) -> bool
     }
 }
 
-// Whether a node that has these takes over the other by this one of the steps, and that is told.
+// Whether a node with these holdings can take over the node `to` by this one of the steps, and the
+// step doesn't leave it out.
 fn is_told(rows: &StepRows, steps: &[StepRows], holdings: &[Holding<'_>], to: Node<'_>) -> bool
     ensures { IsTrue result
         ↔ HoldingsTell steps.now holdings.now (node_of to.entry) rows.now }
@@ -179,14 +184,15 @@ fn is_told(rows: &StepRows, steps: &[StepRows], holdings: &[Holding<'_>], to: No
     rows.takes(holdings, to) && !(writes(rows.step()) && is_untold(steps, holdings, to))
 }
 
-// Whether one writes by this step what roles have, or who has them.
+// Whether this step writes rules of roles, or bindings: `bind` and `escalate` do.
 fn writes(step: Step) -> bool
     ensures { IsTrue result ↔ WritesRoles step }
 {
     step == Step::Bind || step == Step::Escalate
 }
 
-// Whether the node needn't be told as taken over by writing, since one that has all of it is told.
+// Whether `bind` and `escalate` leave out the node `to`, because a node with these holdings can
+// take over a node that includes it by these steps.
 fn is_untold(steps: &[StepRows], holdings: &[Holding<'_>], to: Node<'_>) -> bool
     ensures { IsTrue result ↔ IsUntoldOf steps.now holdings.now (node_of to.entry) }
 {
@@ -203,7 +209,8 @@ fn is_untold(steps: &[StepRows], holdings: &[Holding<'_>], to: Node<'_>) -> bool
     }
 }
 
-// Whether everything in the namespace is taken over, or the cluster role in the whole cluster.
+// Whether these holdings can take over everything in the namespace by `bind` or `escalate`, or the
+// cluster role in the whole cluster by `bind`, if these are among the steps.
 fn has_more(
     steps: &[StepRows],
     holdings: &[Holding<'_>],
@@ -217,7 +224,8 @@ fn has_more(
         || binds(steps, holdings, Node::ClusterRole(role, None))
 }
 
-// Whether writing, if that is among these steps, takes over everything in the scope.
+// Whether these holdings can take over everything in the scope by `bind` or `escalate`, if these
+// are among the steps.
 pub(crate) fn has_all(steps: &[StepRows], holdings: &[Holding<'_>], scope: Option<&Word>) -> bool
     ensures { IsTrue result
         ↔ HoldingsHaveAll steps.now holdings.now (option_copied scope.entry) }
@@ -230,7 +238,8 @@ pub(crate) fn has_all(steps: &[StepRows], holdings: &[Holding<'_>], scope: Optio
     false
 }
 
-// Whether one writes by this step, and takes over everything in the scope by it.
+// Whether this step is `bind` or `escalate`, and these holdings can take over everything in the
+// scope by it.
 fn takes_all(rows: &StepRows, holdings: &[Holding<'_>], scope: Option<&Word>) -> bool
     ensures { IsTrue result ↔ (WritesRoles rows.now
         × HoldingsTake rows.now holdings.now (EverythingIn (option_copied scope.entry))) }
@@ -238,7 +247,7 @@ fn takes_all(rows: &StepRows, holdings: &[Holding<'_>], scope: Option<&Word>) ->
     writes(rows.step()) && rows.takes(holdings, Node::Everything(scope))
 }
 
-// Whether binding, if that is among these steps, takes over the node.
+// Whether these holdings can take over the node by `bind`, if that is among the steps.
 fn binds(steps: &[StepRows], holdings: &[Holding<'_>], to: Node<'_>) -> bool
     ensures { IsTrue result ↔ HoldingsBind steps.now holdings.now (node_of to.entry) }
 {
@@ -250,7 +259,7 @@ fn binds(steps: &[StepRows], holdings: &[Holding<'_>], to: Node<'_>) -> bool
     false
 }
 
-// Whether this step is binding, and takes over the node.
+// Whether this step is `bind`, and these holdings can take over the node by it.
 fn binds_by(rows: &StepRows, holdings: &[Holding<'_>], to: Node<'_>) -> bool
     ensures { IsTrue result
         ↔ ((rows.now ≡ Bind) × HoldingsTake rows.now holdings.now (node_of to.entry)) }

@@ -1,4 +1,5 @@
-//! Lines of ways: each with why its first step is one.
+//! How a way is printed: its start, its first step, and the reason for this step or for allowing
+//! the request.
 
 ghost use Rattle.std.specs.Prelude.{◌≡◌, ◌++◌, OnOk, option_map};
 ghost use Rattle.rbac_paths.specs.Nodes.{node_of};
@@ -10,13 +11,14 @@ use crate::path_line::{put_count, put_reason};
 use rbac_text::put_field_and_tab;
 use std::alloc::AllocError;
 
-/// Adds the line of a way (own): how many steps, who or what its node is and where, who or what the node
-/// after it is and where, the step between them, and why it is one: the binding, its role, the role
-/// where the rule is written, and the places of the rule there and of the subject in the binding,
-/// joined by tabs, with a newline at the end. Where there is no step, `-` stands for the node after
-/// and the step, and the rest is why the node itself allows what is asked for. Where the node is a
-/// role, `-` stands for the binding and the subject; where it is everything, for all five. If it runs
-/// out of memory, a prefix of the line may have been added.
+/// Adds the line of a way (own): eleven fields, joined by tabs, with a newline at the end. The
+/// fields are the number of steps; the node, as who or what and where; the node after it, likewise;
+/// the step between them; the binding, its role, and the role where the rule is written; and the
+/// places of the rule in that role and of the subject in the binding, counted from 1. If there are
+/// no steps, the node after and the step are `-`, and the last five fields give the reason why the
+/// node itself allows the request. If the node is a role, the binding and the subject are `-`; if
+/// it is everything, the last five fields are. If it runs out of memory, a prefix of the line may
+/// have been added.
 pub fn put_way(line: &mut Vec<u8>, way: &Way<'_>) -> Result<(), AllocError>
     ensures { OnOk result (line.new.items ≡ line.old.items ++ way_text way.now) }
 {
@@ -26,10 +28,10 @@ pub fn put_way(line: &mut Vec<u8>, way: &Way<'_>) -> Result<(), AllocError>
     put_reason(line, way.node, way.reason)
 }
 
-// What stands for the node and the step where there is none.
+// The fields of the node after and of the step, if there are no steps.
 const NO_STEP: &[u8] = b"-\t-\t-\t";
 
-// Adds the node that a step leads to, and the step; three `-` if there is none.
+// Adds the node to which the first step leads, and the step; three fields `-` if there is no step.
 fn put_next(line: &mut Vec<u8>, next: Option<Next<'_>>) -> Result<(), AllocError>
     ensures { OnOk result (line.new.items ≡ line.old.items ++ next_text
         (option_map (λ n. record { node = node_of n.node; step = n.step }) next.entry)) }

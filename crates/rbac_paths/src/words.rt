@@ -1,5 +1,6 @@
-//! The words by which users and groups can be had, and those that rules take: each has a mark that
-//! says what it is about, and then a namespace, a name or nothing.
+//! Words, by which nodes are joined to the users and groups that they take over. A rule takes
+//! words, and a user or a group can be had by words: the rule takes it over exactly if both share a
+//! word. A word has a mark, and then a namespace, a name or nothing.
 
 ghost use Rattle.std.specs.Prelude.{◌≡◌, ◌<◌, ◌↔◌, ◌∷◌, All, Any, Contains, IfOk, IsTrue, List, MatchOption};
 ghost use Rattle.std.specs.Prelude.{None, OnOk, Some, length, map};
@@ -25,7 +26,8 @@ use rbac_model::Policy;
 use rbac_terms::{Principal, Rule, Word, Words, account_user};
 use std::alloc::{AllocError, Global};
 
-// The marks of words for service accounts: any, any of a namespace, any of a name, and the one.
+// The marks of words for service accounts: any account, any account of a namespace, any account
+// with a name, and one account.
 const ANY_ACCOUNT: u8 = b'A';
 
 const ACCOUNT_OF: u8 = b'B';
@@ -34,17 +36,17 @@ const ACCOUNT_NAMED: u8 = b'C';
 
 const THAT_ACCOUNT: u8 = b'D';
 
-// Those of words for groups: any, and the one.
+// The marks of words for groups: any group, and one group.
 const ANY_GROUP: u8 = b'G';
 
 const THAT_GROUP: u8 = b'H';
 
-// Those of words for users who are no service accounts: any, and the one.
+// The marks of words for users who are no service accounts: any user, and one user.
 const ANY_USER: u8 = b'U';
 
 const THAT_USER: u8 = b'V';
 
-/// The words by which somebody can be had.
+/// The words by which a user or a group can be had.
 pub(crate) fn words_of_whom(alloc: Global, who: &Principal) -> Result<Words, AllocError>
     ensures { IfOk result (AreHadBy who.now) }
 {
@@ -69,7 +71,7 @@ pub(crate) fn words_of_whom(alloc: Global, who: &Principal) -> Result<Words, All
     }
 }
 
-// These texts as words, each behind its mark.
+// For each of these parts, the word that has the mark and then the text.
 fn marked(alloc: Global, parts: &[(u8, &[u8])]) -> Result<Words, AllocError>
     ensures { IfOk result (λ ws. ws ≡ map (λ part. part.0 ∷ part.1.now) parts.now) }
 {
@@ -80,7 +82,7 @@ fn marked(alloc: Global, parts: &[(u8, &[u8])]) -> Result<Words, AllocError>
     Ok(words)
 }
 
-// The text as a word, behind its mark.
+// The word that has this mark and then the text.
 fn word(alloc: Global, mark: u8, text: &[u8]) -> Result<Word, AllocError>
     ensures { IfOk result (λ w. w ≡ mark ∷ text.now) }
 {
@@ -90,7 +92,7 @@ fn word(alloc: Global, mark: u8, text: &[u8]) -> Result<Word, AllocError>
     Ok(word)
 }
 
-/// The words that these holdings take by these steps, in any order; one may be there more than once.
+/// The words that these holdings take by these steps, in any order and with repeats.
 pub(crate) fn taken_words(
     alloc: Global,
     steps: &[StepRows],
@@ -105,8 +107,8 @@ pub(crate) fn taken_words(
     Ok(words)
 }
 
-/// The words that the grants with these numbers take by these steps, in any order; one may be there
-/// more than once. What the rules of roles take over is given.
+/// The words that the grants with these numbers take by some steps, in any order and with repeats.
+/// `takeovers` lists what each rule of each role takes over by these steps.
 pub(crate) fn words_of_grants(
     alloc: Global,
     policy: &Policy,
@@ -125,7 +127,7 @@ pub(crate) fn words_of_grants(
     Ok(words)
 }
 
-// Adds the words that the grant with this number takes.
+// Adds the words that the grant with this number takes by some steps.
 fn add_of_grant(
     alloc: Global,
     policy: &Policy,
@@ -155,7 +157,7 @@ fn add_of_holding(
     add_of_takeovers(alloc, takeovers.as_slice(), held, words)
 }
 
-// Adds the words that a holding takes whose rule takes over these.
+// Adds the words that a holding takes, if these are the takeovers of its rule.
 fn add_of_takeovers(
     alloc: Global,
     takeovers: &[Takeover],
@@ -173,8 +175,8 @@ fn add_of_takeovers(
 }
 
 impl Takeover {
-    // Adds the words that a rule which takes this over takes where a binding in this namespace, or
-    // in none, is live.
+    // Adds the words that a rule with this takeover takes if it counts in `home`: in this
+    // namespace, or in the whole cluster if there is none.
     fn add_words(
         &self,
         alloc: Global,
@@ -194,7 +196,7 @@ impl Takeover {
         }
     }
 
-    // Whether the rule's names let the requests be for anything.
+    // Whether the rule's object names match the requests for nodes of any name.
     fn lets_any(&self, rule: &Rule) -> bool
         ensures { IsTrue result ↔ LetsName self.now.names rule.now None }
     {
@@ -205,7 +207,7 @@ impl Takeover {
         }
     }
 
-    // Adds the words for who is taken over, of each of these names.
+    // Adds the words for users, groups or service accounts with these names.
     fn add_named(
         &self,
         alloc: Global,
@@ -223,8 +225,9 @@ impl Takeover {
         Ok(())
     }
 
-    // Adds the word for who is taken over, of this name or of any, if there is one. Most grants of a
-    // binding give the word that the one before gave, which isn't added again.
+    // Adds the word for the users, groups or service accounts with this name, or with any name if
+    // there is none. Adds nothing if there is no such word. Most grants of a binding give the same
+    // word as the grant before, so the last word isn't added again.
     fn add_word(
         &self,
         alloc: Global,
@@ -233,7 +236,8 @@ impl Takeover {
         words: &mut Words,
     ) -> Result<(), AllocError>
         ensures { OnOk result (AddsWhere
-            (IsWordFor self.now.over self.now.counts (option_copied home.entry) (option_copied name.entry))
+            (IsWordFor self.now.over self.now.counts (option_copied home.entry)
+            (option_copied name.entry))
             words.old words.new) }
     {
         if let Some(word) = self.word_for(alloc, home, name)? {
@@ -244,8 +248,9 @@ impl Takeover {
         Ok(())
     }
 
-    // The word for who is taken over where a binding in this namespace, or in none, is live, of this
-    // name or of any.
+    // The word for the users, groups or service accounts that a rule with this takeover takes over
+    // if it counts in `home`: those with this name, or with any name if there is none. `None` if
+    // the rule takes over nobody there.
     fn word_for(
         &self,
         alloc: Global,
@@ -270,7 +275,7 @@ impl Takeover {
     }
 }
 
-// Whether the last of these words is that word.
+// Whether the last of these words is this word.
 fn ends_in(words: &Words, word: &Word) -> bool
     ensures { IsTrue result → Contains words.now word.now }
 {
@@ -280,7 +285,7 @@ fn ends_in(words: &Words, word: &Word) -> bool
     }
 }
 
-// The first mark alone for any, and the second with the name.
+// The word that has the second mark and then the name, or, if there is none, the first mark alone.
 fn chosen(alloc: Global, marks: (u8, u8), name: Option<&Word>) -> Result<Word, AllocError>
     ensures { IfOk result (λ w. w ≡ chosen_word marks.0 marks.1 (option_copied name.entry)) }
 {
@@ -290,7 +295,8 @@ fn chosen(alloc: Global, marks: (u8, u8), name: Option<&Word>) -> Result<Word, A
     }
 }
 
-// The word for service accounts of this namespace: of any, or of that with this name.
+// The word for the service account of this name in this namespace, or, if there is none, for any
+// service account of the namespace. `None` if no service account can have these names.
 fn account_word(alloc: Global, home: &Word, name: Option<&Word>) -> Result<Option<Word>, AllocError>
     ensures { IfOk result (λ o. MatchOption o
         ((w : Text) → ¬ IsWordFor over.Accounts counted.InNamespaces
@@ -308,7 +314,7 @@ fn account_word(alloc: Global, home: &Word, name: Option<&Word>) -> Result<Optio
     }
 }
 
-// Whether the word can be a part of a service account's user name.
+// Whether the word can be the namespace or the name in a service account's user name.
 fn is_part(word: &Word) -> bool
     ensures { IsTrue result ↔ IsPart word.now }
 {
