@@ -6,10 +6,10 @@ use Rattle.rbac_terms.specs.Text.{Text}
 use Rattle.rbac_terms.specs.Principals.{Who}
 use Rattle.rbac_model.proofs.OwnWords.{any_from}
 use Rattle.rbac_model.specs.Policies.{GrantView, IsPolicy, PolicyView}
-use Rattle.rbac_paths.specs.Deciding.{AreNumbersOf, GiveHoldings}
+use Rattle.rbac_paths.specs.Deciding.{AreTakingNumbers, GiveHoldings}
 use Rattle.rbac_paths.specs.Having.{HoldingView}
 use Rattle.rbac_paths.specs.Joints.{TakesByWords}
-use Rattle.rbac_paths.specs.Nodes.{NodeView, Somebody}
+use Rattle.rbac_paths.specs.Nodes.{Somebody}
 use Rattle.rbac_paths.specs.SharedWords.{GrantTakesWord, StepTakesWord, TakeWord}
 use Rattle.rbac_paths.specs.Told.{grant_holding}
 use Rattle.rbac_paths.specs.declared.steps.Step.{Step}
@@ -63,9 +63,7 @@ module _ (p : PolicyView) where
         any_from (GrantTakesWord p steps w) ns v.0 v.1 (v.2.0, v.2.1, subst (λ (h : HoldingView). Any (StepTakesWord h.home h.rule w) steps) (sym v.2.2) t.4)),
   )
 
-  pub takes_by_grants : IsPolicy p → (steps : List Step) (x : NodeView) (who : Who) → x ≡ Somebody who → (ns : List ℕ) → AreNumbersOf p steps x ns → (ws : List Text) → ((w : Text) → Contains ws w ↔ Any (GrantTakesWord p steps w) ns) → TakesByWords p steps x ws
-  takes_by_grants ok steps x who is ns are ws exact =
-      let of = subst (λ (z : NodeView). AreNumbersOf p steps z ns) is are in
+  pub takes_by_grants : IsPolicy p → (steps : List Step) (who : Who) (ns : List ℕ) → AreTakingNumbers p steps who ns → (Takes : Text → Type 0) → ((w : Text) → Takes w ↔ Any (GrantTakesWord p steps w) ns) → TakesByWords p steps (Somebody who) Takes
+  takes_by_grants ok steps who ns of Takes exact =
       let decide = given_decide p ok who steps ns of (given ns) (give ns) in
-      subst (λ (z : NodeView). TakesByWords p steps z ws) (sym is)
-      (takes_by_words p (Somebody who) (given ns) steps decide (λ other. tt) ws (λ w. (λ c. (same_words steps ns w).0 ((exact w).0 c), λ t. (exact w).1 ((same_words steps ns w).1 t))))
+      takes_by_words p (Somebody who) (given ns) steps decide (λ other. tt) Takes (λ w. (λ c. (same_words steps ns w).0 ((exact w).0 c), λ t. (exact w).1 ((same_words steps ns w).1 t)))

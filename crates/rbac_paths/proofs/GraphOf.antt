@@ -6,7 +6,7 @@ use Rattle.std.proofs.lemmas.List.{get_or_append_left, get_or_at, length_push}
 use Rattle.std.proofs.lemmas.Option.{same_Some, slice_get_within}
 use Rattle.rbac_terms.specs.Text.{Text}
 use Rattle.rbac_model.specs.Policies.{PolicyView}
-use Rattle.rbac_ways.specs.Joining.{IsListedAt, SharesWord}
+use Rattle.rbac_ways.specs.Joining.{IsListedAt, IsListedIn, SharesWord}
 use Rattle.rbac_ways.specs.Ways.{GraphView, IsEdge}
 use Rattle.rbac_paths.specs.Joints.{AreHad, AreJoints, AreOthers, IsHadBy, IsNobody, TakesByWords}
 use Rattle.rbac_paths.specs.Nodes.{NodeView, Somebody, ClusterRoleIn, OwnRole, EverythingIn}
@@ -19,18 +19,23 @@ pub ok_both : {X E : Type 0} (r : Result X E) (P Q R : X → Type 0) → ((x : X
 ok_both (Ok x) P Q R both first second = both x first second
 ok_both (Err e) P Q R both first second = tt
 
--- a property of each place still holds after one more element is pushed
-pub pushed : {X Y : Type 0} (P : ℕ → Y → X → Type 0) (ys : List Y) (d : X) (xs : List X) (x : X) (count : ℕ) → length xs ≡ count
-    → ((k : ℕ) (y : Y) → k < count → slice_get ys k ≡ Some y → P k y (get_or xs k d)) → ((y : Y) → slice_get ys count ≡ Some y → P count y x)
-    → (k : ℕ) (y : Y) → k < count + 1 → slice_get ys k ≡ Some y → P k y (get_or (xs ++ x ∷ []) k d)
-pushed P ys d xs x count len each last k y low at = elim (cases_lt k count) [
-  | inl less ↦ subst (P k y) (sym (get_or_append_left xs (x ∷ []) d k (let same = len in omega (arith, less, same)))) (each k y less at)
+-- what is said of each place holds with one more pushed
+pub pushed_below : {X : Type 0} (P : ℕ → X → Type 0) (d : X) (xs : List X) (x : X) (count : ℕ) → length xs ≡ count
+    → ((k : ℕ) → k < count → P k (get_or xs k d)) → P count x → (k : ℕ) → k < count + 1 → P k (get_or (xs ++ x ∷ []) k d)
+pushed_below P d xs x count len each last k low = elim (cases_lt k count) [
+  | inl less ↦ subst (P k) (sym (get_or_append_left xs (x ∷ []) d k (let same = len in omega (arith, less, same)))) (each k less)
   | inr high ↦ (
       let same : k ≡ count = omega (arith, low, high) in
       let end : length xs ≡ k = len ∙ sym same in
-      subst (P k y) (sym (get_or_at xs x [] d k end)) (subst (λ (i : ℕ). P i y x) (sym same) (last y (subst (λ (i : ℕ). slice_get ys i ≡ Some y) same at)))
+      subst (P k) (sym (get_or_at xs x [] d k end)) (subst (λ (i : ℕ). P i x) (sym same) last)
       )
 ]
+
+pub pushed : {X Y : Type 0} (P : ℕ → Y → X → Type 0) (ys : List Y) (d : X) (xs : List X) (x : X) (count : ℕ) → length xs ≡ count
+    → ((k : ℕ) (y : Y) → k < count → slice_get ys k ≡ Some y → P k y (get_or xs k d)) → ((y : Y) → slice_get ys count ≡ Some y → P count y x)
+    → (k : ℕ) (y : Y) → k < count + 1 → slice_get ys k ≡ Some y → P k y (get_or (xs ++ x ∷ []) k d)
+pushed {Y = Y} P ys d xs x count len each last k y low at =
+    pushed_below (λ i z. (v : Y) → slice_get ys i ≡ Some v → P i v z) d xs x count len (λ i less v there. each i v less there) last k low y at
 
 -- one more node, and the words by which it can be had
 pub had_more : (ys : List NodeView) (count : ℕ) (had : List (List Text)) (ws : List Text) → AreHad ys count had → ((y : NodeView) → slice_get ys count ≡ Some y → IsHadBy y ws) → AreHad ys (count + 1) (had ++ ws ∷ [])
@@ -40,27 +45,29 @@ had_more ys count had ws h words = record {
 }
 
 module _ (p : PolicyView) (steps : List Step) (ys : List NodeView) where
-  -- no nodes
-  pub joints_none : (takes : List (List Text)) (also : List (List ℕ)) → takes ≡ [] → also ≡ [] → AreJoints p steps ys 0 takes also
-  joints_none takes also no_takes no_also = record {
-    takes_len = ap length no_takes;
+  -- of no nodes
+  pub joints_none : (own : List (List Text)) (also : List (List ℕ)) → own ≡ [] → also ≡ [] → AreJoints p steps ys 0 own also
+  joints_none own also no_own no_also = record {
+    own_len = ap length no_own;
     also_len = ap length no_also;
-    words = λ k y low at. absurd (omega (arith, low));
+    words = λ k y low at is. absurd (omega (arith, low));
     others = λ k y low at. absurd (omega (arith, low));
   }
 
-  pub joints_more : (count : ℕ) (takes : List (List Text)) (also : List (List ℕ)) (ws : List Text) (js : List ℕ) → AreJoints p steps ys count takes also
-      → ((y : NodeView) → slice_get ys count ≡ Some y → TakesByWords p steps y ws) → ((y : NodeView) → slice_get ys count ≡ Some y → AreOthers p steps y ys js)
-      → AreJoints p steps ys (count + 1) (takes ++ ws ∷ []) (also ++ js ∷ [])
-  joints_more count takes also ws js j words others = record {
-    takes_len = length_push takes ws ∙ ap (λ (n : ℕ). n + 1) j.takes_len;
+  pub joints_more : (count : ℕ) (own : List (List Text)) (also : List (List ℕ)) (ws : List Text) (js : List ℕ) → AreJoints p steps ys count own also
+      → ((y : NodeView) → slice_get ys count ≡ Some y → IsNobody y → TakesByWords p steps y (λ w. Contains ws w)) → ((y : NodeView) → slice_get ys count ≡ Some y → AreOthers p steps y ys js)
+      → AreJoints p steps ys (count + 1) (own ++ ws ∷ []) (also ++ js ∷ [])
+  joints_more count own also ws js j words others = record {
+    own_len = length_push own ws ∙ ap (λ (n : ℕ). n + 1) j.own_len;
     also_len = length_push also js ∙ ap (λ (n : ℕ). n + 1) j.also_len;
-    words = pushed (λ k y x. TakesByWords p steps y x) ys [] takes ws count j.takes_len j.words words;
+    words = pushed (λ k y x. IsNobody y → TakesByWords p steps y (λ w. Contains x w)) ys [] own ws count j.own_len j.words words;
     others = pushed (λ k y x. AreOthers p steps y ys x) ys [] also js count j.also_len j.others others;
   }
 
-  module _ (takes had : List (List Text)) (also : List (List ℕ)) (joints : AreJoints p steps ys (length ys) takes also) (are : AreHad ys (length ys) had) where
-    -- no word is one by which a role, or everything, can be had
+  module _ (lists : List (List Text)) (takes : List (List ℕ)) (had : List (List Text)) (also : List (List ℕ)) (takes_len : length takes ≡ length ys)
+      (words : (i : ℕ) (x : NodeView) → slice_get ys i ≡ Some x → TakesByWords p steps x (λ w. IsListedIn lists (get_or takes i []) w))
+      (others : (i : ℕ) (x : NodeView) → slice_get ys i ≡ Some x → AreOthers p steps x ys (get_or also i [])) (are : AreHad ys (length ys) had) where
+    -- roles and everything have no words
     nobody_had : (j : ℕ) (y : NodeView) (w : Text) → slice_get ys j ≡ Some y → IsNobody y → Contains (get_or had j []) w → ⊥
     nobody_had j (Somebody who) w at is c = elim is [ ]
     nobody_had j (ClusterRoleIn role scope) w at is c = let low = (subst (λ (ws : List Text). Contains ws w) (are.words j (ClusterRoleIn role scope) (slice_get_within ys j (ClusterRoleIn role scope) at) at) c).1 in omega (arith, low)
@@ -68,23 +75,23 @@ module _ (p : PolicyView) (steps : List Step) (ys : List NodeView) where
     nobody_had j (EverythingIn scope) w at is c = let low = (subst (λ (ws : List Text). Contains ws w) (are.words j (EverythingIn scope) (slice_get_within ys j (EverythingIn scope) at) at) c).1 in omega (arith, low)
 
     abbrev Joined : ℕ → ℕ → Type 0
-    Joined i j = SharesWord takes had i j ⊎ IsListedAt also i j
+    Joined i j = SharesWord lists takes had i j ⊎ IsListedAt also i j
 
     module _ (i j : ℕ) (x : NodeView) (at : slice_get ys i ≡ Some x) where
       listed : (y : NodeView) → slice_get ys j ≡ Some y → IsListedAt also i j → TakesOver p steps x y
       listed y there l =
-          let o = (joints.others i x (slice_get_within ys i x at) at j).0 l in
+          let o = (others i x at j).0 l in
           subst (λ (z : NodeView). TakesOver p steps x z) (same_Some o.0 y (sym o.1 ∙ there)) o.3
 
       to_nobody : (y : NodeView) → slice_get ys j ≡ Some y → IsNobody y → Joined i j ↔ TakesOver p steps x y
       to_nobody y there is = (
         λ e. elim e [ inl s ↦ absurd (nobody_had j y s.0 there is s.2) | inr l ↦ listed y there l ],
-        λ t. inr ((joints.others i x (slice_get_within ys i x at) at j).1 (y, there, is, t)),
+        λ t. inr ((others i x at j).1 (y, there, is, t)),
       )
 
       pub joined : (y : NodeView) → slice_get ys j ≡ Some y → Joined i j ↔ TakesOver p steps x y
       joined (Somebody who) there =
-          let share = joints.words i x (slice_get_within ys i x at) at who (get_or had j []) (are.words j (Somebody who) (slice_get_within ys j (Somebody who) there) there) in (
+          let share = words i x at who (get_or had j []) (are.words j (Somebody who) (slice_get_within ys j (Somebody who) there) there) in (
             λ e. elim e [ inl s ↦ share.0 (s.0, s.1, s.2) | inr l ↦ listed (Somebody who) there l ],
             λ t. (let s = share.1 t in inl (s.0, s.1, s.2)),
           )
@@ -94,11 +101,11 @@ module _ (p : PolicyView) (steps : List Step) (ys : List NodeView) where
 
     pub graph_is : (g : GraphView) → length g.takes ≡ length takes → ((i j : ℕ) → IsEdge g i j ↔ ((j < length takes) × Joined i j)) → IsGraphOf p steps ys g
     graph_is g len edges = record {
-      len = len ∙ joints.takes_len;
+      len = len ∙ takes_len;
       edges = λ i j x y at there. (
           let is = joined i j x at y there in (
             λ e. is.0 ((edges i j).0 e).1,
-            λ t. (edges i j).1 (subst (λ (n : ℕ). j < n) (sym joints.takes_len) (slice_get_within ys j y there), is.1 t),
+            λ t. (edges i j).1 (subst (λ (n : ℕ). j < n) (sym takes_len) (slice_get_within ys j y there), is.1 t),
           )
           );
     }

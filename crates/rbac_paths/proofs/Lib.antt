@@ -22,7 +22,9 @@ pub mod GraphWays
 pub mod GrantWords
 pub mod Grants
 pub mod InScopes
+pub mod Keeping
 pub mod KeysApart
+pub mod ListPlaces
 pub mod Mapped
 pub mod NodeWords
 pub mod NodesAdded

@@ -8,9 +8,9 @@ use Rattle.rbac_terms.specs.Targets.{Resource}
 use Rattle.rbac_terms.specs.Text.{Text}
 use Rattle.rbac_model.proofs.OwnWords.{any_from}
 use Rattle.rbac_model.specs.Policies.{GrantView, Live, PolicyView}
-use Rattle.rbac_paths.specs.Deciding.{GiveHoldings, IsAnyNode}
+use Rattle.rbac_paths.specs.Deciding.{IsAnyNode}
 use Rattle.rbac_paths.specs.Having.{HoldingView}
-use Rattle.rbac_paths.specs.Joints.{AreAskedPlaces, AreOthers, AreOthersAt, AreOverOthers, AreScoped, CountsAt, DecideOn, IsAboutNode, IsNobody, IsOther, IsOverNobody, MatchesOverOthers, MayTakeBy, SomeMayTake, scope_at}
+use Rattle.rbac_paths.specs.Joints.{AreAskedPlaces, AreOthers, AreOthersAt, AreOverOthers, AreScoped, CountsAt, DecideOn, IsAboutNode, IsNobody, IsOther, IsOverNobody, IsOverOthersAt, MatchesOverOthers, MayTakeBy, SomeMayTake, scope_at}
 use Rattle.rbac_paths.specs.Nodes.{NodeView, Somebody, ClusterRoleIn, OwnRole, EverythingIn}
 use Rattle.rbac_paths.specs.Rows.{HasRowResource}
 use Rattle.rbac_paths.specs.Steps.{StepRowView, asked_in, table}
@@ -133,25 +133,35 @@ module _ (steps : List Step) (hs : List HoldingView) (i : ℕ) (h : HoldingView)
     ],
   ))
 
--- the grant with number n gives this holding, whose rule matches a row that takes over roles or
--- everything
-abbrev pub GivesOther : PolicyView → List Step → ℕ → HoldingView → Type 0
-GivesOther p steps n h = (g : GrantView) × (slice_get p.grants n ≡ Some g) × (grant_holding g ≡ h) × SomeMayTake steps h
-
-pub one_given : (p : PolicyView) (steps : List Step) (n : ℕ) (g : GrantView) → slice_get p.grants n ≡ Some g → SomeMayTake steps (grant_holding g) → (h : HoldingView) → GivesOther p steps n h ↔ (h ≡ grant_holding g)
-one_given p steps n g here may h = (
-  λ w. sym (ap grant_holding (same_Some g w.0 (sym here ∙ w.1)) ∙ w.2),
-  λ e. (g, here, sym e, subst (SomeMayTake steps) (sym e) may),
+-- of a grant that is known
+pub over_at : (p : PolicyView) (steps : List Step) (n : ℕ) (g : GrantView) → slice_get p.grants n ≡ Some g → (May : Type 0) → May ↔ SomeMayTake steps (grant_holding g) → May ↔ IsOverOthersAt p steps n
+over_at p steps n g here May same = (
+  λ may. (g, here, same.0 may),
+  λ w. same.1 (subst (SomeMayTake steps) (ap grant_holding (same_Some w.0 g (sym w.1 ∙ here))) w.2),
 )
 
-pub none_given : (p : PolicyView) (steps : List Step) (n : ℕ) (g : GrantView) → slice_get p.grants n ≡ Some g → (SomeMayTake steps (grant_holding g) → ⊥) → (h : HoldingView) → GivesOther p steps n h → ⊥
-none_given p steps n g here isnt h w = isnt (subst (SomeMayTake steps) (sym (ap grant_holding (same_Some g w.0 (sym here ∙ w.1)) ∙ w.2)) w.3)
+-- those of some numbers that have a property are kept, one number after another
+module _ (Has : ℕ → Type 0) (numbers : List ℕ) (next : ℕ) (kept : List ℕ) (are : (n : ℕ) → Contains kept n ↔ (Contains numbers n × Has n)) where
+  pub kept_more : Has next → (n : ℕ) → Contains (kept ++ next ∷ []) n ↔ (Contains (numbers ++ next ∷ []) n × Has n)
+  kept_more has n = (
+    λ c. elim (Contains-push_cases kept next n c) [
+      | inl old ↦ (let v = (are n).0 old in (Contains-append_left numbers (next ∷ []) n v.0, v.1))
+      | inr same ↦ subst (λ (k : ℕ). Contains (numbers ++ next ∷ []) k × Has k) same (Contains-push numbers next, has)
+    ],
+    λ v. elim (Contains-push_cases numbers next n v.0) [
+      | inl old ↦ Contains-append_left kept (next ∷ []) n ((are n).1 (old, v.1))
+      | inr same ↦ subst (λ (k : ℕ). Contains (kept ++ next ∷ []) k) same (Contains-push kept next)
+    ],
+  )
 
-pub given_over : (p : PolicyView) (steps : List Step) (numbers : List ℕ) (hs : List HoldingView) → GiveHoldings p numbers hs → (few : List HoldingView) → ((h : HoldingView) → Contains few h ↔ Any (λ n. GivesOther p steps n h) numbers) → AreOverOthers steps hs few
-given_over p steps numbers hs give few are h = (
-  λ c. (let a = (are h).0 c in ((give h).1 (a.1, (a.0, a.2, a.3), (a.4.0, a.4.1, a.4.2)), a.4.3)),
-  λ w. (let v = (give h).0 w.0 in (are h).1 (any_from (λ n. GivesOther p steps n h) numbers v.0 v.1 (v.2.0, v.2.1, v.2.2, w.1))),
-)
+  pub kept_same : (Has next → ⊥) → (n : ℕ) → Contains kept n ↔ (Contains (numbers ++ next ∷ []) n × Has n)
+  kept_same isnt n = (
+    λ c. (let v = (are n).0 c in (Contains-append_left numbers (next ∷ []) n v.0, v.1)),
+    λ v. elim (Contains-push_cases numbers next n v.0) [
+      | inl old ↦ (are n).1 (old, v.1)
+      | inr same ↦ absurd (isnt (subst Has (sym same) v.1))
+    ],
+  )
 
 -- about roles and everything, the holdings whose rules match a row for these decide
 pub few_decide : (p : PolicyView) (steps : List Step) (x : NodeView) (hs : List HoldingView) → DecideOn p steps x hs IsAnyNode → (few : List HoldingView)

@@ -87,10 +87,10 @@ pub may_take : (steps : List Step) (h : HoldingView) (ts : List Takeover) → Ar
 unfolding SomeMayTake
 may_take steps h ts are = same_over steps h.rule ts are
 
-pub not_empty : (ts : List Takeover) → (ts ≡ [] → ⊥) → (t : Takeover) × Contains ts t
+pub not_empty : {X : Type 0} (xs : List X) → (xs ≡ [] → ⊥) → (x : X) × Contains xs x
 not_empty [] isnt = absurd (isnt refl)
-not_empty (t ∷ ts) isnt = (t, (0, omega arith, refl))
+not_empty (x ∷ xs) isnt = (x, (0, omega arith, refl))
 
-pub no_takeovers : (ts : List Takeover) → length ts ≡ 0 → ts ≡ []
-no_takeovers [] e = refl
-no_takeovers (t ∷ ts) e = absurd (omega (arith, e))
+pub none_of : {X : Type 0} (xs : List X) → length xs ≡ 0 → xs ≡ []
+none_of [] e = refl
+none_of (x ∷ xs) e = absurd (omega (arith, e))

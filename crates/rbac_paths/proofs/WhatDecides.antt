@@ -1,41 +1,36 @@
 -- Which grants decide what a node takes over, and that they do.
 use Rattle.std.specs.Prelude.{IsSomeAnd}
-use Rattle.std.proofs.Common.{◌≡◌, ◌<◌, ◌+◌, ◌++◌, ◌∙◌, ◌↔◌, ℕ, List, [], ◌∷◌, MatchOption, None, Option, Some, Any, map, Contains, ap, arith, get_or, inl, inr, length, refl, slice_get, subst, sym}
+use Rattle.std.proofs.Common.{◌≡◌, ◌<◌, ◌++◌, ◌∙◌, ◌↔◌, ℕ, List, [], ◌∷◌, MatchOption, None, Option, Some, Any, Contains, ap, arith, inl, inr, length, refl, slice_get, subst, sym}
 use Rattle.std.proofs.lemmas.Bool.{cases_lt}
-use Rattle.std.proofs.lemmas.List.{length_push}
-use Rattle.std.proofs.lemmas.List.Elements.{Contains-append_cases, Contains-append_left, Contains-append_right, Contains-push, Contains-push_cases}
+use Rattle.std.proofs.lemmas.List.Elements.{Contains-append_left, Contains-push, Contains-push_cases}
 use Rattle.std.proofs.lemmas.Option.{same_Some, slice_get_within}
 use Rattle.rbac_terms.specs.Matching.{VerbOk}
 use Rattle.rbac_terms.specs.Principals.{Who}
 use Rattle.rbac_terms.specs.declared.matching.Rule.{Rule}
-use Rattle.rbac_model.proofs.BindingPlaces.{of_some_binding}
 use Rattle.rbac_model.proofs.OwnWords.{any_from}
 use Rattle.rbac_model.specs.Policies.{BindingNames, GrantView, IsPolicy, PolicyView}
 use Rattle.rbac_model.specs.Lists.{IsFirstAt}
-use Rattle.rbac_subjects.specs.Bound.{AreNamedPlaces}
 use Rattle.rbac_paths.specs.Aims.{GrantServes, Serves, ToTakeOver}
-use Rattle.rbac_paths.specs.Deciding.{AreNumbers, AreNumbersOf, AreTakingGrants, AreTakingNumbers, GiveHoldings, IsAnyNode, IsLeastTaking, IsTakingAt, MatchesStep, SomeRowMatches, TakesBy}
+use Rattle.rbac_paths.specs.Deciding.{AreNumbersOf, AreTakingNumbers, GiveHoldings, IsAnyNode, IsLeastTaking, IsTakingAt, MatchesStep, SomeRowMatches, TakesBy}
 use Rattle.rbac_paths.specs.Having.{AreHoldings, HoldingView}
-use Rattle.rbac_paths.specs.Joints.{DecideOn, IsAboutNode}
-use Rattle.rbac_paths.specs.Nodes.{NodeView, Somebody, ClusterRoleIn, OwnRole, EverythingIn, node_of}
+use Rattle.rbac_paths.specs.Joints.{DecideOn, IsAboutNode, MatchesOverOthers, MayTakeBy}
+use Rattle.rbac_paths.specs.Nodes.{NodeView, Somebody, ClusterRoleIn, OwnRole, EverythingIn}
 use Rattle.rbac_paths.specs.Rows.{AreOfStep, HasRowResource, MatchesRow}
 use Rattle.rbac_paths.specs.Steps.{StepRowView, table}
 use Rattle.rbac_paths.specs.Taking.{CanTakeOver, RowTakes, RuleTakes}
 use Rattle.rbac_paths.specs.Told.{HoldingTakes, HoldingsTake, grant_holding}
-use Rattle.rbac_paths.specs.declared.node.Node.{Node}
 use Rattle.rbac_paths.specs.declared.steps.Step.{Step}
 use Rattle.rbac_paths.proofs.AllowedBy.{by_holdings, in_holdings}
 use Rattle.rbac_paths.proofs.Grants.{GrantTakes, by_grant, some_takes}
-use Rattle.rbac_paths.proofs.GraphOf.{pushed}
 
 -- ---- which rules match
 
--- a rule matches a row among the rows of a step exactly if it matches the step by the table
-pub matches_rows : (step : Step) (rows : List StepRowView) → AreOfStep step table rows → (rule : Rule) → Any (λ row. MatchesRow row rule) rows ↔ MatchesStep rule step
-unfolding MatchesStep
-matches_rows step rows of rule = (
-  λ a. (let there = (of a.1).0 (a.0, a.2, a.3) in any_from (λ row. (row.step ≡ step) × MatchesRow row rule) table a.1 there.0 (there.1, a.4)),
-  λ a. any_from (λ row. MatchesRow row rule) rows a.1 ((of a.1).1 ((a.0, a.2, a.3), a.4.0)) a.4.1,
+-- what rows of a step say of a rule is what the table says
+pub may_take_rows : (step : Step) (rows : List StepRowView) → AreOfStep step table rows → (rule : Rule) → Any (MatchesOverOthers rule) rows ↔ MayTakeBy rule step
+unfolding MayTakeBy
+may_take_rows step rows of rule = (
+  λ a. (let there = (of a.1).0 (a.0, a.2, a.3) in any_from (λ row. (row.step ≡ step) × MatchesOverOthers rule row) table a.1 there.0 (there.1, a.4)),
+  λ a. any_from (MatchesOverOthers rule) rows a.1 ((of a.1).1 ((a.0, a.2, a.3), a.4.0)) a.4.1,
 )
 
 -- a rule that takes over a node by a row matches the row
@@ -52,29 +47,6 @@ step_matches steps step among h y a =
     any_from (MatchesStep h.rule) steps step among
     (any_from (λ row. (row.step ≡ step) × MatchesRow row h.rule) table a.1 (a.0, a.2, a.3) (a.4.0, row_matches a.1 h y a.4.1))
 
--- ---- the numbers that are listed at some places
-
-abbrev pub AreListedAt : List (List ℕ) → List ℕ → List ℕ → Type 0
-AreListedAt lists places numbers = (n : ℕ) → Contains numbers n ↔ ((at : ℕ) × Contains places at × Contains (get_or lists at []) n)
-
-pub listed_none : (lists : List (List ℕ)) (numbers : List ℕ) → numbers ≡ [] → AreListedAt lists [] numbers
-listed_none lists numbers empty n = (
-  λ c. absurd (let low = (subst (λ (ks : List ℕ). Contains ks n) empty c).1 in omega (arith, low)),
-  λ w. absurd (let low = w.1.1 in omega (arith, low)),
-)
-
-pub listed_more : (lists : List (List ℕ)) (places : List ℕ) (place : ℕ) (numbers : List ℕ) → AreListedAt lists places numbers → AreListedAt lists (places ++ place ∷ []) (numbers ++ get_or lists place [])
-listed_more lists places place numbers are n = (
-  λ c. elim (Contains-append_cases numbers (get_or lists place []) n c) [
-    | inl old ↦ (let w = (are n).0 old in (w.0, Contains-append_left places (place ∷ []) w.0 w.1, w.2))
-    | inr own ↦ (place, Contains-push places place, own)
-  ],
-  λ w. elim (Contains-push_cases places place w.0 w.1) [
-    | inl old ↦ Contains-append_left numbers (get_or lists place []) n ((are n).1 (w.0, old, w.2))
-    | inr same ↦ Contains-append_right numbers (get_or lists place []) n (subst (λ (k : ℕ). Contains (get_or lists k []) n) (sym same) w.2)
-  ],
-)
-
 -- ---- the grants whose rules match
 
 module _ (p : PolicyView) (steps : List Step) where
@@ -82,18 +54,7 @@ module _ (p : PolicyView) (steps : List Step) where
   pub taking_rule : (number : ℕ) (g : GrantView) → slice_get p.grants number ≡ Some g → IsTakingAt p steps number → SomeRowMatches steps g.rule.rule
   taking_rule number g here is = subst (λ (x : GrantView). SomeRowMatches steps x.rule.rule) (same_Some is.0 g (sym is.1 ∙ here)) is.2
 
-  pub listed_all : IsPolicy p → (who : Who) (lists : List (List ℕ)) (places numbers : List ℕ) → AreTakingGrants p steps lists → AreNamedPlaces p who places → AreListedAt lists places numbers → AreTakingNumbers p steps who numbers
-  listed_all ok who lists places numbers taking named are n = (
-    λ c.
-        (let w = (are n).0 c in
-        let is = (taking n w.0).0 w.2 in
-        ((named n w.0 is.0).0 w.1, is.1)),
-    λ w.
-        (let of = of_some_binding p ok n (slice_get_within p.grants n w.1.0 w.1.1) in
-        (are n).1 (of.0, (named n of.0 of.1).1 w.0, (taking n of.0).1 (of.1, w.1))),
-  )
-
-  -- ---- the holdings that these grants give
+  -- ---- what these grants give
 
   pub numbers_within : (y : NodeView) (numbers : List ℕ) → AreNumbersOf p steps y numbers → (n : ℕ) → Contains numbers n → n < length p.grants
   numbers_within (Somebody who) numbers are n c = let w = (are n).0 c in slice_get_within p.grants n w.1.0 w.1.1
@@ -152,25 +113,7 @@ given_for p ok steps y numbers hs who is are give =
 pub decide_about : (p : PolicyView) (steps : List Step) (x : NodeView) (hs : List HoldingView) → DecideOn p steps x hs IsAnyNode → (y : NodeView) → DecideOn p steps x hs (IsAboutNode y)
 decide_about p steps x hs decide y step z among about = decide step z among tt
 
--- ---- node by node
-
-module _ (p : PolicyView) (steps : List Step) (ys : List NodeView) where
-  pub numbers_none : (lists : List (List ℕ)) → lists ≡ [] → AreNumbers p steps ys 0 lists
-  numbers_none lists empty = record { len = ap length empty; each = λ k y low at. absurd (omega (arith, low)) }
-
-  pub numbers_more : (count : ℕ) (lists : List (List ℕ)) (numbers : List ℕ) → AreNumbers p steps ys count lists → ((y : NodeView) → slice_get ys count ≡ Some y → AreNumbersOf p steps y numbers) → AreNumbers p steps ys (count + 1) (lists ++ numbers ∷ [])
-  numbers_more count lists numbers are of = record {
-    len = length_push lists numbers ∙ ap (λ (n : ℕ). n + 1) are.len;
-    each = pushed (λ k y ns. AreNumbersOf p steps y ns) ys [] lists numbers count are.len are.each of;
-  }
-
-pub same_numbers : (p : PolicyView) (a b : List Step) (xs ys : List Node) (ls ms : List (List ℕ)) → a ≡ b → xs ≡ ys → ls ≡ ms → AreNumbers p a (map node_of xs) (length xs) ls → AreNumbers p b (map node_of ys) (length ys) ms
-same_numbers p a b xs ys ls ms steps nodes lists are =
-    subst (λ (ns : List (List ℕ)). AreNumbers p b (map node_of ys) (length ys) ns) lists
-    (subst (λ (zs : List Node). AreNumbers p b (map node_of zs) (length zs) ls) nodes
-    (subst (λ (ss : List Step). AreNumbers p ss (map node_of xs) (length xs) ls) steps are))
-
--- ---- the first grant of a principal that takes over a node
+-- ---- the first of somebody's grants that takes over a node
 
 module _ (p : PolicyView) (step : Step) (y : NodeView) where
   pub least_none : IsLeastTaking p step y [] None

@@ -42,14 +42,21 @@ module _ (p : PolicyView) (x : NodeView) (hs : List HoldingView) (steps : List S
       let by_steps = any_from (StepTakesWord h.home h.rule w) steps s t.1.among by_row in
       (w, shares.1, any_from (λ h. Any (StepTakesWord h.home h.rule w) steps) hs h (held.0, held.2, held.3) by_steps)
 
-pub takes_by_words : (p : PolicyView) (x : NodeView) (hs : List HoldingView) (steps : List Step) → DecideOn p steps x hs IsAnyNode → ((who : Who) → MayGoOn x (Somebody who)) → (ws : List Text) → ((w : Text) → Contains ws w ↔ TakeWord steps hs w) → TakesByWords p steps x ws
-takes_by_words p x hs steps decide on ws exact who had of = (
+pub takes_by_words : (p : PolicyView) (x : NodeView) (hs : List HoldingView) (steps : List Step) → DecideOn p steps x hs IsAnyNode → ((who : Who) → MayGoOn x (Somebody who)) → (Takes : Text → Type 0) → ((w : Text) → Takes w ↔ TakeWord steps hs w) → TakesByWords p steps x Takes
+takes_by_words p x hs steps decide on Takes exact who had of = (
   λ s. by_word p x hs steps decide who had of s.0 s.2 (on who) ((exact s.0).0 s.1),
   λ t. (let w = some_word p x hs steps decide who had of t in (w.0, (exact w.0).1 w.2, w.1)),
 )
 
-pub takes_none : (p : PolicyView) (x : NodeView) (steps : List Step) → ((who : Who) → MayGoOn x (Somebody who) → ⊥) → TakesByWords p steps x []
+pub takes_none : (p : PolicyView) (x : NodeView) (steps : List Step) → ((who : Who) → MayGoOn x (Somebody who) → ⊥) → TakesByWords p steps x (λ w. Contains [] w)
 takes_none p x steps off who had of = (
   λ s. absurd (let low = s.1.1 in omega (arith, low)),
   λ t. absurd (off who t.1.goes_on),
+)
+
+-- words that are the same are taken alike
+pub takes_same : (p : PolicyView) (x : NodeView) (steps : List Step) (One Other : Text → Type 0) → ((w : Text) → Other w ↔ One w) → TakesByWords p steps x One → TakesByWords p steps x Other
+takes_same p x steps One Other same takes who had of = (
+  λ s. (takes who had of).0 (s.0, (same s.0).0 s.1, s.2),
+  λ t. (let s = (takes who had of).1 t in (s.0, (same s.0).1 s.1, s.2)),
 )

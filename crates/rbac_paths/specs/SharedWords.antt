@@ -1,7 +1,7 @@
 -- The words by which users and groups can be had, and the words that rules take. A rule takes over
 -- a user or a group exactly if it takes a word by which this user or group can be had (own).
 use Rattle.std.specs.Prelude.{◌≡◌, ◌⊎◌, ◌↔◌, ℕ, List, [], ◌∷◌, ◌++◌, Option, Some, None}
-use Rattle.std.specs.Prelude.{Any, Contains, codes, slice_get}
+use Rattle.std.specs.Prelude.{Any, Contains, codes, length, slice_get, slice_index_or}
 use Rattle.rbac_terms.specs.Text.{Text}
 use Rattle.rbac_terms.specs.Principals.{Who, AsUser, AsMember, IsPart, account_user}
 use Rattle.rbac_terms.specs.Matching.{NameMatches}
@@ -122,3 +122,10 @@ TakeWord steps hs w = Any (λ h. Any (StepTakesWord h.home h.rule w) steps) hs
 abbrev pub GrantTakesWord : PolicyView → List Step → Text → ℕ → Type 0
 GrantTakesWord p steps w n = (g : GrantView) × (slice_get p.grants n ≡ Some g)
     × Any (StepTakesWord g.binding.namespace g.rule.rule w) steps
+
+-- for each binding exactly the words that these grants of it take
+pub record AreGrantWords (p : PolicyView) (steps : List Step) (grants : List (List ℕ))
+    (lists : List (List Text)) : Type 0 where
+  pub len : length lists ≡ length grants
+  pub each : (at : ℕ) (w : Text) → Contains (slice_index_or lists at []) w
+      ↔ Any (GrantTakesWord p steps w) (slice_index_or grants at [])

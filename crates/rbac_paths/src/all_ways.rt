@@ -1,4 +1,4 @@
-//! The ways to what is asked for.
+//! The nodes that come to a request, and the ways there.
 
 ghost use Rattle.std.specs.Prelude.{◌≡◌, ◌≢◌, ◌↔◌, ℕ, All, AllPairs, Contains, IfOk, IsTrue};
 ghost use Rattle.std.specs.Prelude.{IsSome, MatchOption, None, length, map, slice_index_or};
@@ -10,8 +10,8 @@ ghost use Rattle.rbac_model.specs.Policies.{IsPolicy};
 ghost use Rattle.rbac_model.specs.Unions.{who_texts};
 ghost use Rattle.rbac_ways.specs.Ways.{AreInOrder};
 ghost use Rattle.rbac_paths.specs.Access.{AllowsAccess, access_of};
-ghost use Rattle.rbac_paths.specs.Deciding.{AreNumbers};
-ghost use Rattle.rbac_paths.specs.Having.{rule_of_all};
+ghost use Rattle.rbac_paths.specs.Deciding.{ArePlaces, AreTakingGrants};
+ghost use Rattle.rbac_paths.specs.Joints.{IsDeciding};
 ghost use Rattle.rbac_paths.specs.NodeLists.{node_text};
 ghost use Rattle.rbac_paths.specs.Nodes.{node_of};
 ghost use Rattle.rbac_paths.specs.Told.{HasItsRole};
@@ -25,9 +25,9 @@ use crate::aim::Aim;
 use crate::all_paths::last_step;
 use crate::allowed::places_of_allowing;
 use crate::bound_names::bound_names;
-use crate::graph::graph_of;
+use crate::deciding::{Deciding, deciding_at};
+use crate::graph::{NodeGraph, graph_of};
 use crate::holding::rule_of_all;
-use crate::listed::listed_at;
 use crate::node::Node;
 use crate::nodes::nodes_of;
 use crate::reason::{Reason, reason_of};
@@ -35,21 +35,21 @@ use crate::steps::Step;
 use crate::told::{StepRows, rows_of_steps};
 use rbac_model::Policy;
 use rbac_subjects::SubjectIndex;
-use rbac_terms::{Items, Principal, Rule};
+use rbac_terms::Principal;
 use rbac_ways::{Reached, Stop, shortest_ways};
 use std::alloc::{AllocError, Global};
 use std::marker::Model;
 
-/// A node from which steps lead to one that allows what is asked for, and the first step of such a way
-/// that has the fewest. Contracts see its nodes by what they refer to.
+/// A node from which steps lead to one that allows the request, and the first step of a shortest
+/// way there. Contracts see its nodes by what they refer to.
 pub struct Way<'p> {
-    /// How many steps lead there, at least; 0 if the node itself allows it.
+    /// The number of steps of a shortest way; 0 if the node itself allows the request.
     pub count: usize,
     /// The node.
     pub node: Node<'p>,
     /// The first step, if there is one.
     pub next: Option<Next<'p>>,
-    /// Why that is one, or, if there is none, why the node itself allows what is asked for.
+    /// Why the node can take the first step; if there is none, why it allows the request itself.
     pub reason: Reason<'p>,
 }
 
@@ -67,9 +67,9 @@ impl Drop for Way<'_> {
 /// The first step of a way.
 #[derive(Clone, Copy)]
 pub struct Next<'p> {
-    /// The node that it leads to: of several the first as printed.
+    /// The node that it leads to. Of several, it is the first in the order of their printed texts.
     pub node: Node<'p>,
-    /// The first step by which that is taken over.
+    /// The first of the steps by which that node is taken over.
     pub step: Step,
 }
 
@@ -89,9 +89,9 @@ impl<'p> Model for Way<'p> {
     } };
 }
 
-/// The users and groups, and the nodes that steps lead to from one of them, from which steps, or
-/// none, lead to a node that allows what is asked for, each once, with the first step of a way that
-/// has the fewest, in order of how many steps there are, and then of how the nodes are printed (own).
+/// The nodes from which steps, or none, lead to a node that allows the request, each once, with the
+/// first step of a shortest way there. Only users and groups are listed, and nodes that one of
+/// these comes to. They are sorted by the number of steps, and then by their printed texts (own).
 /// Nodes are the users and groups given; the roles, where they can be bound; and everything in a
 /// scope. Fails only if it runs out of memory.
 pub fn ways_to<'p>(
@@ -119,10 +119,9 @@ pub fn ways_to<'p>(
     let ends = places_of_allowing(alloc, policy, index, nodes, access)?;
     let back = made.graph.turned(alloc)?;
     let reached = shortest_ways(alloc, &back, ends.as_slice())?;
-    let numbers = made.numbers.as_slice();
     let come = come.stops.as_slice();
     ways_by(
-        alloc, policy, index, rows, access, nodes, numbers, come, &reached,
+        alloc, policy, index, rows, access, nodes, &made, come, &reached,
     )
 }
 
@@ -160,7 +159,7 @@ fn is_somebody(node: Node<'_>) -> bool
     matches!(node, Node::Somebody(_))
 }
 
-// The ways from the nodes that were reached, of those that are come to.
+// The ways from the nodes that were reached. A node that no user or group comes to is left out.
 fn ways_by<'p>(
     alloc: Global,
     policy: &'p Policy,
@@ -168,15 +167,16 @@ fn ways_by<'p>(
     steps: &[StepRows],
     access: Access<'_>,
     nodes: &[Node<'p>],
-    numbers: &[Items<u32>],
+    made: &NodeGraph,
     come: &[Option<Stop>],
     reached: &Reached,
 ) -> Result<Vec<Way<'p>>, AllocError>
     requires policy { IsPolicy policy.now }
     requires index { index.now ≡ policy.now }
     requires held { All (HasItsRole policy.now.held) (map node_of nodes.now) }
-    requires numbers { AreNumbers policy.now steps.now (map node_of nodes.now) (length nodes.now)
-        numbers.now }
+    requires grants { AreTakingGrants policy.now steps.now made.now.grants.items }
+    requires places { ArePlaces policy.now made.now.grants.items (map node_of nodes.now) (length nodes.now)
+        made.now.places.items }
     requires ordered { AllPairs (λ y z. text_cmp (node_text y) (node_text z) ≡ Less)
         (map node_of nodes.now) }
     requires linked { AreLinkedOn policy.now steps.now (map node_of nodes.now)
@@ -192,8 +192,10 @@ fn ways_by<'p>(
     let mut ways = Vec::new(alloc);
     for place in reached.order.as_slice() {
         let way = if is_met(come, *place) {
+            let node = nodes[*place];
+            let known = deciding_at(alloc, &*policy, &*index, &all, made, *place, node)?;
             way_at(
-                alloc, policy, index, &all, steps, access, nodes, numbers, stops, *place,
+                alloc, policy, index, steps, access, nodes, &known, stops, *place,
             )?
         } else {
             None
@@ -205,32 +207,31 @@ fn ways_by<'p>(
     Ok(ways)
 }
 
-// Whether a way leads to the node at this place.
+// Whether the node at this place was met.
 fn is_met(stops: &[Option<Stop>], place: usize) -> bool
     ensures { IsTrue result ↔ IsSome (slice_index_or stops.now place None) }
 {
     matches!(stops.get(place), Some(Some(_)))
 }
 
-// The way from the node at this place, if one leads on from there.
+// The way from the node at this place, if one leads on from there. `known` decides which nodes it
+// takes over.
 fn way_at<'p>(
     alloc: Global,
     policy: &'p Policy,
     index: &SubjectIndex<'p>,
-    all: &Rule,
     steps: &[StepRows],
     access: Access<'_>,
     nodes: &[Node<'p>],
-    numbers: &[Items<u32>],
+    known: &Deciding<'_>,
     stops: &[Option<Stop>],
     place: usize,
 ) -> Result<Option<Way<'p>>, AllocError>
     requires policy { IsPolicy policy.now }
     requires index { index.now ≡ policy.now }
-    requires all { all.now ≡ rule_of_all }
     requires held { All (HasItsRole policy.now.held) (map node_of nodes.now) }
-    requires numbers { AreNumbers policy.now steps.now (map node_of nodes.now) (length nodes.now)
-        numbers.now }
+    requires known { IsDeciding policy.now steps.now (map node_of nodes.now) known.now }
+    requires place { known.now.place ≡ place }
     requires linked { AreLinkedOn policy.now steps.now (map node_of nodes.now) stops.now }
     requires ends { AllowAtEnds policy.now (access_of access) (map node_of nodes.now) stops.now }
     ensures { IfOk result (λ way. MatchOption way (slice_index_or stops.now place None ≡ None)
@@ -248,9 +249,7 @@ fn way_at<'p>(
     let Some(next) = nodes.get(stop.before) else {
         return Ok(None);
     };
-    let own = listed_at(numbers, place);
-    let Some((step, reason)) = last_step(alloc, policy, index, all, steps, *node, own, *next)?
-    else {
+    let Some((step, reason)) = last_step(alloc, policy, index, steps, *node, known, *next)? else {
         return Ok(None);
     };
     let node = *node;
@@ -264,7 +263,7 @@ fn way_at<'p>(
     }))
 }
 
-// The way of no steps from a node, if it allows what is asked for.
+// The way of no steps from a node, if the node allows the request.
 fn own_way<'p>(
     alloc: Global,
     policy: &'p Policy,

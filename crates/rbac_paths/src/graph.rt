@@ -1,23 +1,25 @@
 //! The graph of nodes: an edge leads from each node to each that it takes over.
 
-ghost use Rattle.std.specs.Prelude.{◌≡◌, ◌↔◌, [], All, IfOk, IsTrue, List, length, map};
+ghost use Rattle.std.specs.Prelude.{◌≡◌, ◌↔◌, ◌≤◌, [], ℕ, All, Contains, IfOk, IsTrue, List, length, map};
 ghost use Rattle.rbac_terms.specs.Principals.{Who};
 ghost use Rattle.rbac_model.specs.Policies.{IsPolicy, PolicyView};
-ghost use Rattle.rbac_paths.specs.Deciding.{AreNumbers, AreNumbersOf, IsAnyNode};
+ghost use Rattle.rbac_paths.specs.Deciding.{AreGrantsByBinding, ArePlaces, ArePlacesOf, AreTakingGrants};
+ghost use Rattle.rbac_paths.specs.Deciding.{IsAnyNode};
 ghost use Rattle.rbac_paths.specs.Having.{rule_of_all};
-ghost use Rattle.rbac_paths.specs.Joints.{AreHad, DecideOn, IsHadBy, IsNobody, TakesByWords};
+ghost use Rattle.rbac_paths.specs.Joints.{AreFewGrants, AreHad, DecideOn, IsHadBy, IsNobody, TakesByWords};
 ghost use Rattle.rbac_paths.specs.Nodes.{NodeView, Somebody, node_of};
 ghost use Rattle.rbac_paths.specs.Paths.{IsGraphOf};
+ghost use Rattle.rbac_paths.specs.SharedWords.{AreGrantWords};
 ghost use Rattle.rbac_paths.specs.Takeovers.{HaveTakeovers};
 ghost use Rattle.rbac_paths.specs.TakingOver.{MayGoOn};
 ghost use Rattle.rbac_paths.specs.Told.{HasItsRole};
 ghost use Rattle.rbac_paths.specs.declared.steps.Step.{Step};
 
-use crate::deciding::numbers_of_nodes;
+use crate::deciding::{given_by, places_of_lists, taking_grants};
 use crate::holding::{Holding, holdings_of, rule_of_all};
 use crate::listed::listed_at;
 use crate::node::Node;
-use crate::other_nodes::{Others, others_taken, over_others, over_others_of_grants};
+use crate::other_nodes::{Others, others_taken, over_others, over_others_among};
 use crate::rule_takeovers::RuleTakeovers;
 use crate::steps::Step;
 use crate::told::{StepRows, rows_of_steps};
@@ -25,25 +27,31 @@ use crate::words::{taken_words, words_of_grants, words_of_whom};
 use rbac_model::Policy;
 use rbac_subjects::SubjectIndex;
 use rbac_terms::{Items, Rule, Words};
-use rbac_ways::Graph;
+use rbac_ways::{Graph, listed_in};
 use std::alloc::{AllocError, Global};
 
 /// The graph of some nodes, and the grants that decide what each node takes over.
 pub(crate) struct NodeGraph {
     /// The graph.
     pub(crate) graph: Graph,
-    /// The numbers of the grants, node by node.
-    pub(crate) numbers: Vec<Items<u32>>,
+    /// For each binding, the numbers of these grants.
+    pub(crate) grants: Vec<Items<u32>>,
+    /// For each node, the places of the bindings whose grants it has.
+    pub(crate) places: Vec<Items<usize>>,
 }
 
 impl Drop for NodeGraph {
     fn drop(self) {
-        let Self { graph, numbers } = self;
+        let Self {
+            graph,
+            grants,
+            places,
+        } = self;
     }
 }
 
-/// The graph of these nodes, by these steps, and the numbers of the grants that decide what each node
-/// takes over.
+/// The graph of these nodes by these steps, and the grants that decide what each node takes over.
+/// Fails only if it runs out of memory.
 pub(crate) fn graph_of<'p>(
     alloc: Global,
     policy: &'p Policy,
@@ -56,11 +64,14 @@ pub(crate) fn graph_of<'p>(
     requires held { All (HasItsRole policy.now.held) (map node_of nodes.now) }
     ensures graph { IfOk result
         (λ made. IsGraphOf policy.now steps.now (map node_of nodes.now) made.graph) }
-    ensures numbers { IfOk result (λ made. AreNumbers policy.now steps.now (map node_of nodes.now)
-        (length nodes.now) made.numbers.items) }
+    ensures grants { IfOk result (λ made.
+        AreTakingGrants policy.now steps.now made.grants.items) }
+    ensures places { IfOk result (λ made. ArePlaces policy.now made.grants.items
+        (map node_of nodes.now) (length nodes.now) made.places.items) }
 {
     let takeovers = RuleTakeovers::of_roles(alloc, policy.objects(), steps)?;
-    let numbers = numbers_of_nodes(alloc, policy, index, &takeovers, nodes)?;
+    let grants = taking_grants(alloc, policy, &takeovers)?;
+    let places = places_of_lists(alloc, index, grants.as_slice(), nodes)?;
     let graph = joined(
         alloc,
         policy,
@@ -68,13 +79,20 @@ pub(crate) fn graph_of<'p>(
         steps,
         &takeovers,
         nodes,
-        numbers.as_slice(),
+        grants.as_slice(),
+        places.as_slice(),
     )?;
-    Ok(NodeGraph { graph, numbers })
+    Ok(NodeGraph {
+        graph,
+        grants,
+        places,
+    })
 }
 
-// The graph. Users and groups are joined by the words that they share with who takes them over, so that
-// many who take many are written once; roles and everything are asked for one by one.
+// The graph. A node has an edge to a user or a group if it takes a word by which that can be had.
+// So a set of many users that many nodes take over is written once. The words that a binding's
+// grants take are made once for all subjects of the binding. Roles, and everything in a scope, are
+// checked one by one.
 fn joined<'p>(
     alloc: Global,
     policy: &'p Policy,
@@ -82,35 +100,60 @@ fn joined<'p>(
     steps: &[StepRows],
     takeovers: &RuleTakeovers,
     nodes: &[Node<'p>],
-    numbers: &[Items<u32>],
+    grants: &[Items<u32>],
+    places: &[Items<usize>],
 ) -> Result<Graph, AllocError>
     requires policy { IsPolicy policy.now }
     requires index { index.now ≡ policy.now }
     requires takeovers { HaveTakeovers policy.now.held steps.now takeovers.now }
     requires held { All (HasItsRole policy.now.held) (map node_of nodes.now) }
-    requires numbers { AreNumbers policy.now steps.now (map node_of nodes.now) (length nodes.now) numbers.now }
+    requires grants { AreTakingGrants policy.now steps.now grants.now }
+    requires places { ArePlaces policy.now grants.now (map node_of nodes.now) (length nodes.now) places.now }
     ensures { IfOk result (λ g. IsGraphOf policy.now steps.now (map node_of nodes.now) g) }
 {
     let all = rule_of_all(alloc)?;
     let rows = rows_of_steps(alloc, &[Step::Bind, Step::Escalate])?;
     let writing = rows.as_slice();
     let others = Others::of(alloc, nodes)?;
-    let mut takes = Vec::with_capacity(alloc, nodes.len())?;
+    let few = few_of_bindings(alloc, policy, takeovers, grants)?;
+    let few = few.as_slice();
+    let mut lists = words_of_bindings(alloc, policy, takeovers, grants)?;
     let mut also = Vec::with_capacity(alloc, nodes.len())?;
     for (place, node) in nodes.iter().enumerate() {
-        let own = listed_at(numbers, place);
+        let own = listed_at(places, place);
         let holdings = rules_held(alloc, policy, index, &all, *node)?;
         let held = holdings.as_slice();
-        takes.push(words_taken(alloc, policy, steps, takeovers, held, own, *node)?)?;
-        let few = few_taken(alloc, policy, steps, takeovers, held, own, *node)?;
-        let few = few.as_slice();
-        also.push(others_taken(alloc, steps, writing, few, *node, nodes, &others)?)?;
+        lists.push(words_held(alloc, steps, held, *node)?)?;
+        let over = few_taken(alloc, policy, steps, few, held, own, *node)?;
+        let over = over.as_slice();
+        also.push(others_taken(alloc, steps, writing, over, *node, nodes, &others)?)?;
     }
     let had_by = words_of_nodes(alloc, nodes)?;
-    Graph::joined(alloc, takes.as_slice(), had_by.as_slice(), also.as_slice())
+    let lists = lists.as_slice();
+    Graph::joined(alloc, lists, places, had_by.as_slice(), also.as_slice())
 }
 
-// The rules of a role, or of everything. Somebody has none here: their grants decide.
+// For each binding, the words that its taking grants take. `grants` has the numbers of these
+// grants.
+fn words_of_bindings(
+    alloc: Global,
+    policy: &Policy,
+    takeovers: &RuleTakeovers,
+    grants: &[Items<u32>],
+) -> Result<Vec<Words>, AllocError>
+    requires { AreGrantsByBinding policy.now grants.now }
+    ensures { (steps : List Step) → HaveTakeovers policy.now.held steps takeovers.now
+        → IfOk result (λ lists. AreGrantWords policy.now steps grants.now lists.items) }
+{
+    let mut lists = Vec::with_capacity(alloc, grants.len())?;
+    for numbers in grants {
+        lists.push(words_of_grants(alloc, policy, takeovers, numbers.as_slice())?)?;
+    }
+    Ok(lists)
+}
+
+// The rules of a role, or of everything in a scope. A user or a group has none here: grants decide
+// what it takes over.
 fn rules_held<'p>(
     alloc: Global,
     policy: &'p Policy,
@@ -131,31 +174,7 @@ fn rules_held<'p>(
     }
 }
 
-// The words that a node takes. The grants with these numbers decide that for somebody, and these
-// holdings for any other node.
-fn words_taken(
-    alloc: Global,
-    policy: &Policy,
-    steps: &[StepRows],
-    takeovers: &RuleTakeovers,
-    holdings: &[Holding<'_>],
-    numbers: &[u32],
-    node: Node<'_>,
-) -> Result<Words, AllocError>
-    requires policy { IsPolicy policy.now }
-    requires takeovers { HaveTakeovers policy.now.held steps.now takeovers.now }
-    requires numbers { AreNumbersOf policy.now steps.now (node_of node) numbers.now }
-    ensures { (IsNobody (node_of node.entry)
-        → DecideOn policy.now steps.now (node_of node.entry) holdings.now IsAnyNode)
-        → IfOk result (λ ws. TakesByWords policy.now steps.now (node_of node.entry) ws) }
-{
-    match node {
-        Node::Somebody(_) => words_of_grants(alloc, policy, takeovers, numbers),
-        _ => words_held(alloc, steps, holdings, node),
-    }
-}
-
-// The words that a node takes; these holdings decide that.
+// The words that a node takes by these holdings; none if it doesn't go on to users and groups.
 fn words_held(
     alloc: Global,
     steps: &[StepRows],
@@ -164,7 +183,7 @@ fn words_held(
 ) -> Result<Words, AllocError>
     ensures { (p : PolicyView)
         → DecideOn p steps.now (node_of node.entry) holdings.now IsAnyNode
-        → IfOk result (λ ws. TakesByWords p steps.now (node_of node.entry) ws) }
+        → IfOk result (λ ws. TakesByWords p steps.now (node_of node.entry) (λ w. Contains ws w)) }
 {
     if goes_further(node) {
         taken_words(alloc, steps, holdings)
@@ -173,39 +192,62 @@ fn words_held(
     }
 }
 
-// Whether a node goes on to users and groups at all.
+// Whether a node goes on to users and groups. Everything in the whole cluster goes on to nothing.
 fn goes_further(node: Node<'_>) -> bool
     ensures { (who : Who) → IsTrue result ↔ MayGoOn (node_of node.entry) (Somebody who) }
 {
     !matches!(node, Node::Everything(None))
 }
 
-// The holdings of a node that decide which roles it takes over, and everything where: most nodes have
-// few of these. They are among what the grants with these numbers give to somebody, and among these
-// holdings for any other node.
+// For each binding, its few grants that may take over other nodes. Most bindings have none.
+fn few_of_bindings(
+    alloc: Global,
+    policy: &Policy,
+    takeovers: &RuleTakeovers,
+    grants: &[Items<u32>],
+) -> Result<Vec<Items<u32>>, AllocError>
+    requires { AreGrantsByBinding policy.now grants.now }
+    ensures { (steps : List Step) → HaveTakeovers policy.now.held steps takeovers.now
+        → IfOk result (λ few. AreFewGrants policy.now steps grants.now few.items) }
+{
+    let mut few = Vec::with_capacity(alloc, grants.len())?;
+    for numbers in grants {
+        few.push(over_others_among(alloc, policy, takeovers, numbers.as_slice())?)?;
+    }
+    Ok(few)
+}
+
+// The holdings that decide which other nodes a node takes over. A user or a group has them by the
+// `few` grants of the bindings at its places; any other node has them among its own holdings.
 fn few_taken<'p>(
     alloc: Global,
     policy: &'p Policy,
     steps: &[StepRows],
-    takeovers: &RuleTakeovers,
+    few: &[Items<u32>],
     holdings: &[Holding<'p>],
-    numbers: &[u32],
+    places: &[usize],
     node: Node<'_>,
 ) -> Result<Vec<Holding<'p>>, AllocError>
     requires policy { IsPolicy policy.now }
-    requires takeovers { HaveTakeovers policy.now.held steps.now takeovers.now }
-    requires numbers { AreNumbersOf policy.now steps.now (node_of node) numbers.now }
-    ensures { (IsNobody (node_of node.entry)
+    requires few { AreGrantsByBinding policy.now few.now }
+    ensures { (grants : List (List ℕ)) (own : ℕ) → length grants ≤ own
+        → AreTakingGrants policy.now steps.now grants
+        → AreFewGrants policy.now steps.now grants few.now
+        → ArePlacesOf policy.now grants own (node_of node.entry) places.now
+        → (IsNobody (node_of node.entry)
         → DecideOn policy.now steps.now (node_of node.entry) holdings.now IsAnyNode)
         → IfOk result (λ few. DecideOn policy.now steps.now (node_of node.entry) few.items IsNobody) }
 {
     match node {
-        Node::Somebody(_) => over_others_of_grants(alloc, policy, takeovers, numbers),
+        Node::Somebody(_) => {
+            let numbers = listed_in(alloc, few, places)?;
+            given_by(alloc, policy, numbers.as_slice())
+        }
         _ => over_others(alloc, steps, holdings),
     }
 }
 
-// The words by which each of these nodes can be had.
+// For each of these nodes, the words by which it can be had.
 fn words_of_nodes(alloc: Global, nodes: &[Node<'_>]) -> Result<Vec<Words>, AllocError>
     ensures { IfOk result (λ had. AreHad (map node_of nodes.now) (length nodes.now) had.items) }
 {
@@ -216,7 +258,7 @@ fn words_of_nodes(alloc: Global, nodes: &[Node<'_>]) -> Result<Vec<Words>, Alloc
     Ok(all)
 }
 
-// The words by which a node can be had.
+// The words by which a node can be had; none for a role or for everything.
 fn words_of_node(alloc: Global, node: Node<'_>) -> Result<Words, AllocError>
     ensures { IfOk result (IsHadBy (node_of node.entry)) }
 {

@@ -6,12 +6,10 @@ ghost use Rattle.std.specs.Prelude.{None, OnOk, length, map, ℕ};
 ghost use Rattle.std.specs.Option.{option_copied};
 ghost use Rattle.rbac_model.specs.Policies.{PolicyView};
 ghost use Rattle.rbac_ways.specs.Joining.{HasUnder};
-ghost use Rattle.rbac_paths.specs.Deciding.{GiveHoldings};
-ghost use Rattle.rbac_paths.specs.Having.{HoldingView};
 ghost use Rattle.rbac_paths.specs.Joints.{AreAmongOthers, AreAskedPlaces, AreOtherPlaces, AreOthers};
 ghost use Rattle.rbac_paths.specs.Joints.{AreOthersAt, AreOverOthers, AreScopeWords, AreScoped};
-ghost use Rattle.rbac_paths.specs.Joints.{CountsAt, DecideOn, IsNobody, OthersView, scope_at};
-ghost use Rattle.rbac_paths.specs.Joints.{scope_words};
+ghost use Rattle.rbac_paths.specs.Joints.{CountsAt, DecideOn, IsNobody, IsOverOthersAt, OthersView};
+ghost use Rattle.rbac_paths.specs.Joints.{SomeMayTake, scope_at, scope_words};
 ghost use Rattle.rbac_paths.specs.Nodes.{NodeView, node_of};
 ghost use Rattle.rbac_paths.specs.SharedWords.{AddsWhere};
 ghost use Rattle.rbac_paths.specs.Takeovers.{HaveTakeovers};
@@ -24,7 +22,7 @@ ghost use Rattle.rbac_paths.specs.declared.steps.Step.TheVariants.{Bind, Escalat
 use crate::holding::Holding;
 use crate::node::Node;
 use crate::rule_takeovers::RuleTakeovers;
-use crate::takeover::{some_is_over_nobody, takeovers_of};
+use crate::takeover::some_is_over_nobody;
 use crate::taking::scope_namespace;
 use crate::told::{StepRows, first_told, has_all};
 use rbac_model::Policy;
@@ -37,21 +35,30 @@ use std::marker::Model;
 /// nodes of a list are users and groups.
 pub(crate) struct Others {
     places: Vec<usize>,
+    in_cluster: Vec<usize>,
     by_scope: NodesByWord,
 }
 
 impl Drop for Others {
     fn drop(self) {
-        let Self { places, by_scope } = self;
+        let Self {
+            places,
+            in_cluster,
+            by_scope,
+        } = self;
     }
 }
 
 impl Model for Others {
+    ghost use Rattle.std.specs.Prelude.{◌↔◌, ℕ, Contains, []};
+    ghost use Rattle.rbac_ways.specs.Joining.{HasUnder};
     ghost use Rattle.rbac_paths.specs.Joints.{OthersView};
 
     ghost Value = { OthersView };
 
     ghost view = { λ o. record { places = o.places.items; by_scope = o.by_scope } };
+
+    ghost invariant = { λ o. (j : ℕ) → Contains o.in_cluster.items j ↔ HasUnder o.by_scope [] j };
 }
 
 impl Others {
@@ -62,17 +69,23 @@ impl Others {
         let places = places_of_others(alloc, nodes)?;
         let scopes = scopes_of_others(alloc, nodes)?;
         let by_scope = NodesByWord::of(alloc, scopes.as_slice())?;
-        Ok(Others { places, by_scope })
+        let mut in_cluster = Vec::new(alloc);
+        in_cluster.extend_from_slice(by_scope.under(&Word::new(alloc)))?;
+        Ok(Others {
+            places,
+            in_cluster,
+            by_scope,
+        })
     }
 
     // The places of the other nodes in this scope.
-    fn at(&self, alloc: Global, scope: Option<&Word>) -> &[usize]
+    fn at(&self, scope: Option<&Word>) -> &[usize]
         ensures { (j : ℕ) → Contains result.now j
             ↔ HasUnder self.now.by_scope (scope_namespace (option_copied scope.entry)) j }
     {
         match scope {
             Some(namespace) => self.by_scope.under(namespace),
-            None => self.by_scope.under(&Word::new(alloc)),
+            None => self.in_cluster.as_slice(),
         }
     }
 }
@@ -144,8 +157,7 @@ pub(crate) fn over_others<'p>(
 {
     let mut few = Vec::new(alloc);
     for held in holdings {
-        let takeovers = takeovers_of(alloc, steps, held.rule)?;
-        if some_is_over_nobody(takeovers.as_slice()) {
+        if some_may_take(steps, held) {
             let Holding { home, rule } = *held;
             few.push(Holding { home, rule })?;
         }
@@ -153,24 +165,30 @@ pub(crate) fn over_others<'p>(
     Ok(few)
 }
 
-/// The holdings that may take over other nodes by some steps, among those that the grants with
-/// these numbers give. `takeovers` lists what each rule of each role takes over by these steps.
-pub(crate) fn over_others_of_grants<'p>(
+// Whether the holding may take over other nodes by these steps.
+fn some_may_take(steps: &[StepRows], held: &Holding<'_>) -> bool
+    ensures { IsTrue result ↔ SomeMayTake steps.now held.now }
+{
+    steps.iter().any(|rows| rows.may_take(held.rule))
+}
+
+/// The numbers, among these, of the grants that may take over other nodes by some steps.
+/// `takeovers` lists what each rule of each role takes over by these steps.
+pub(crate) fn over_others_among(
     alloc: Global,
-    policy: &'p Policy,
+    policy: &Policy,
     takeovers: &RuleTakeovers,
     numbers: &[u32],
-) -> Result<Vec<Holding<'p>>, AllocError>
+) -> Result<Items<u32>, AllocError>
     requires { All (λ n. n < length policy.now.grants) numbers.now }
-    ensures { (steps : List Step) (hs : List HoldingView)
-        → HaveTakeovers policy.now.held steps takeovers.now
-        → GiveHoldings policy.now numbers.now hs
-        → IfOk result (λ few. AreOverOthers steps hs few.items) }
+    ensures { (steps : List Step) → HaveTakeovers policy.now.held steps takeovers.now
+        → IfOk result (λ few. (n : ℕ) → Contains few n
+        ↔ (Contains numbers.now n × IsOverOthersAt policy.now steps n)) }
 {
-    let mut few = Vec::new(alloc);
+    let mut few = Items::new(alloc);
     for no in numbers {
         if some_is_over_nobody(takeovers.of_grant(policy.place(*no))) {
-            few.push(Holding::by(policy.grant(*no)))?;
+            few.push(*no)?;
         }
     }
     Ok(few)
@@ -255,8 +273,8 @@ fn places_to_ask(
         places.extend_from_slice(others.places.as_slice())?;
         return Ok(places);
     }
-    add_in_cluster(alloc, few, others, &mut places)?;
-    add_in_scopes(alloc, scoped, others, &mut places)?;
+    add_in_cluster(few, others, &mut places)?;
+    add_in_scopes(scoped, others, &mut places)?;
     places.sort_unstable();
     places.dedup();
     Ok(places)
@@ -264,7 +282,6 @@ fn places_to_ask(
 
 // Adds the places of the other nodes in the whole cluster, if one of these holdings counts there.
 fn add_in_cluster(
-    alloc: Global,
     holdings: &[Holding<'_>],
     others: &Others,
     places: &mut Vec<usize>,
@@ -274,14 +291,13 @@ fn add_in_cluster(
         places.old.items places.new.items) }
 {
     if count_in_cluster(holdings) {
-        places.extend_from_slice(others.at(alloc, None))?;
+        places.extend_from_slice(others.at(None))?;
     }
     Ok(())
 }
 
 // Adds the places of the other nodes in the scopes of these holdings.
 fn add_in_scopes(
-    alloc: Global,
     holdings: &[Holding<'_>],
     others: &Others,
     places: &mut Vec<usize>,
@@ -291,7 +307,7 @@ fn add_in_scopes(
         places.old.items places.new.items) }
 {
     for held in holdings {
-        places.extend_from_slice(others.at(alloc, held.home))?;
+        places.extend_from_slice(others.at(held.home))?;
     }
     Ok(())
 }

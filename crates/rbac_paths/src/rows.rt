@@ -9,6 +9,7 @@ ghost use Rattle.rbac_terms.specs.Text.{Text};
 ghost use Rattle.rbac_model.specs.Policies.{Live};
 ghost use Rattle.rbac_paths.specs.Asked.{AllowsAsked, AllowsAskedRow, AllowsRowFor, Asks, HasRowNameFor};
 ghost use Rattle.rbac_paths.specs.Asked.{RowAsks};
+ghost use Rattle.rbac_paths.specs.Joints.{MatchesOverOthers};
 ghost use Rattle.rbac_paths.specs.Nodes.{node_of};
 ghost use Rattle.rbac_paths.specs.Rows.{AddsRow, AreOfStep, HasRowName, HasRowResource, MatchesRow, row_view};
 ghost use Rattle.rbac_paths.specs.Steps.{AllowsRow, CountsIn, asked_in, table};
@@ -19,7 +20,7 @@ use crate::holding::Holding;
 use crate::node::Node;
 use crate::steps::Step;
 use crate::table::{Counts, Names, Over, Row, TABLE};
-use crate::takeover::Takeover;
+use crate::takeover::{Takeover, is_over_nobody};
 use crate::taking::{
     Asked, for_account, for_cluster_role, for_everything, for_group, for_role, for_user,
 };
@@ -248,6 +249,13 @@ impl WordRow {
         ensures { IsTrue result ↔ MatchesRow self.now rule.now }
     {
         group_matches(rule, &self.group) && self.has_verb_of(rule) && self.has_resource_of(rule)
+    }
+
+    // Whether the row takes over roles or everything, and the rule matches it.
+    pub(crate) fn matches_over_others(&self, rule: &Rule) -> bool
+        ensures { IsTrue result ↔ MatchesOverOthers rule.now self.now }
+    {
+        is_over_nobody(self.over) && self.matches(rule)
     }
 
     // Whether the rule matches one of the row's verbs.

@@ -69,8 +69,8 @@ pub(crate) fn some_is_over_nobody(all: &[Takeover]) -> bool
     all.iter().any(|takeover| is_over_nobody(takeover.over))
 }
 
-// Whether this is roles or everything, and not users, groups or service accounts.
-fn is_over_nobody(over: Over) -> bool
+/// Whether this is roles or everything, and not users, groups or service accounts.
+pub(crate) fn is_over_nobody(over: Over) -> bool
     ensures { IsTrue result ↔ IsOverNobody over }
 {
     match over {

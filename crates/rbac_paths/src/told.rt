@@ -5,7 +5,7 @@ ghost use Rattle.std.specs.Prelude.{◌≡◌, ◌↔◌, ◌⊎◌, Any, IfOk, 
 ghost use Rattle.std.specs.Option.{option_copied};
 ghost use Rattle.rbac_model.specs.Policies.{PolicyView};
 ghost use Rattle.rbac_paths.specs.Asked.{AreAskedBy, AreAskedFor};
-ghost use Rattle.rbac_paths.specs.Joints.{DecideOn, IsAboutNode};
+ghost use Rattle.rbac_paths.specs.Joints.{DecideOn, IsAboutNode, MatchesOverOthers, MayTakeBy};
 ghost use Rattle.rbac_paths.specs.Nodes.{ClusterRoleIn, EverythingIn, node_of};
 ghost use Rattle.rbac_paths.specs.Rows.{AreOfStep};
 ghost use Rattle.rbac_paths.specs.Steps.{table};
@@ -19,7 +19,7 @@ use crate::holding::Holding;
 use crate::node::Node;
 use crate::rows::{AskedRow, WordRow, rows_of};
 use crate::steps::Step;
-use rbac_terms::{ClusterRole, Word};
+use rbac_terms::{ClusterRole, Rule, Word};
 use std::alloc::{AllocError, Global};
 use std::marker::Model;
 
@@ -65,6 +65,13 @@ impl StepRows {
         self.step
     }
 
+    // Whether the rule matches a row of the step that takes over roles or everything.
+    pub(crate) fn may_take(&self, rule: &Rule) -> bool
+        ensures { IsTrue result ↔ MayTakeBy rule.now self.now }
+    {
+        some_matches_over_others(self.rows.as_slice(), rule)
+    }
+
     // Whether a node with these holdings can take over the node `to` by the step.
     fn takes(&self, holdings: &[Holding<'_>], to: Node<'_>) -> bool
         ensures { IsTrue result ↔ HoldingsTake self.now holdings.now (node_of to.entry) }
@@ -90,6 +97,13 @@ impl StepRows {
     {
         takes_some(self.rows.as_slice(), held, to)
     }
+}
+
+// Whether the rule matches one of these rows that takes over roles or everything.
+fn some_matches_over_others(rows: &[WordRow], rule: &Rule) -> bool
+    ensures { IsTrue result ↔ Any (MatchesOverOthers rule.now) rows.now }
+{
+    rows.iter().any(|row| row.matches_over_others(rule))
 }
 
 // Whether the holding allows a request of one of these rows that takes over the node.

@@ -1,8 +1,8 @@
 -- Nodes by the words by which they can be had.
-use Rattle.std.proofs.Common.{◌≡◌, ◌<◌, ◌↔◌, ◌∙◌, [], ℕ, List, None, Option, Some, Contains, arith, get_or, length, refl, slice_get, subst, sym}
+use Rattle.std.proofs.Common.{◌≡◌, ◌<◌, ◌↔◌, ◌∙◌, [], ℕ, List, Some, Contains, get_or, length, refl, slice_get, subst, sym}
 use Rattle.std.proofs.lemmas.Option.{same_Some, slice_get_read, slice_get_within}
 use Rattle.rbac_terms.specs.Text.{Text}
-use Rattle.rbac_ways.specs.Joining.{AreWordsOf, ByWordView, HasUnder, IsListedAt, IsNumberOf}
+use Rattle.rbac_ways.specs.Joining.{AreWordsOf, HasUnder, IsListedAt, IsNumberOf}
 
 pub by_words : (had_by : List (List Text)) (words : List Text) (sets : List (List ℕ)) → AreWordsOf had_by words
     → ((number j : ℕ) → number < length words → IsListedAt sets number j ↔ IsNumberOf words (get_or had_by j []) number)

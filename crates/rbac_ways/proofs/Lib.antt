@@ -1,5 +1,6 @@
 pub mod ByWord
 pub mod Edges
+pub mod Listing
 pub mod Meets
 pub mod Numbering
 pub mod Orders

@@ -22,7 +22,7 @@ use Rattle.rbac_terms.proofs.Halving.{found_iff}
 use Rattle.rbac_terms.specs.Text.{Text, text_cmp}
 use Rattle.rbac_ways.proofs.Meets.{of_pushed, pushed_here}
 use Rattle.rbac_ways.proofs.Turning.{listed_within}
-use Rattle.rbac_ways.specs.Joining.{AreWordsOf, IsListedAt, IsNumberOf, TakesSet}
+use Rattle.rbac_ways.specs.Joining.{AreNumbersOfEach, AreWordsOf, IsListedAt, IsListedIn, IsNumberOf, TakesSet}
 
 -- the word is in one of the lists
 abbrev pub IsInOne : List (List Text) → Text → Type 0
@@ -126,28 +126,51 @@ more_with words listed w found numbers are is number = (
   ],
 )
 
--- the nodes below a bound take their sets
-pub record AreTakenBelow (words : List Text) (takes : List (List Text)) (bound : ℕ) (sets : List (List ℕ)) : Type 0 where
-  pub len : length sets ≡ bound
-  pub each : (i set : ℕ) → i < bound → IsListedAt sets i set ↔ TakesSet words takes i set
+-- the lists below a bound have their numbers
+pub record AreNumberedBelow (words : List Text) (lists : List (List Text)) (bound : ℕ) (numbers : List (List ℕ)) : Type 0 where
+  pub len : length numbers ≡ bound
+  pub each : (k number : ℕ) → k < bound → IsListedAt numbers k number ↔ IsNumberOf words (get_or lists k []) number
 
-pub taken_more : (words : List Text) (takes : List (List Text)) (node : ℕ) (sets : List (List ℕ)) (numbers : List ℕ) → ((number : ℕ) → Contains numbers number ↔ IsNumberOf words (get_or takes node []) number)
-    → AreTakenBelow words takes node sets → AreTakenBelow words takes (node + 1) (sets ++ (numbers ++ (length words + node) ∷ []) ∷ [])
-taken_more words takes node sets numbers are below = record { len = length-append sets (taken ∷ []) ∙ ap (λ (n : ℕ). n + 1) below.len; each = each }
+pub numbered_more : (words : List Text) (lists : List (List Text)) (bound : ℕ) (numbers : List (List ℕ)) (own : List ℕ) → ((number : ℕ) → Contains own number ↔ IsNumberOf words (get_or lists bound []) number)
+    → AreNumberedBelow words lists bound numbers → AreNumberedBelow words lists (bound + 1) (numbers ++ own ∷ [])
+numbered_more words lists bound numbers own are below = record {
+  len = length-append numbers (own ∷ []) ∙ ap (λ (n : ℕ). n + 1) below.len;
+  each = λ k number low. elim (cases_eq k bound) [
+    | inl same ↦ subst (λ (i : ℕ). IsListedAt (numbers ++ own ∷ []) i number ↔ IsNumberOf words (get_or lists i []) number) (sym same)
+        (subst (λ (xs : List ℕ). Contains xs number ↔ IsNumberOf words (get_or lists bound []) number) (sym (get_or_at numbers own [] [] bound below.len)) (are number))
+    | inr ne ↦ subst (λ (xs : List ℕ). Contains xs number ↔ IsNumberOf words (get_or lists k []) number) (sym (get_or_append_left numbers (own ∷ []) [] k (let len = below.len in omega (arith, low, ne, len))))
+        (below.each k number (omega (arith, low, ne)))
+  ];
+}
+
+pub numbered_all : (words : List Text) (lists : List (List Text)) (bound : ℕ) (numbers : List (List ℕ)) → bound ≡ length lists → AreNumberedBelow words lists bound numbers → AreNumbersOfEach words lists numbers
+numbered_all words lists bound numbers end below k number = (
+  λ h. (below.each k number (let low = listed_within numbers k number h in let len = below.len in omega (arith, low, len))).0 h,
+  λ w. (below.each k number (let low = listed_within lists k w.0 w.1 in omega (arith, low, end))).1 w,
+)
+
+-- the nodes below a bound take their sets
+pub record AreTakenBelow (count : ℕ) (numbers takes : List (List ℕ)) (bound : ℕ) (sets : List (List ℕ)) : Type 0 where
+  pub len : length sets ≡ bound
+  pub each : (i set : ℕ) → i < bound → IsListedAt sets i set ↔ TakesSet count numbers takes i set
+
+pub taken_more : (count : ℕ) (numbers takes : List (List ℕ)) (node : ℕ) (sets : List (List ℕ)) (listed : List ℕ) → ((set : ℕ) → Contains listed set ↔ IsListedIn numbers (get_or takes node []) set)
+    → AreTakenBelow count numbers takes node sets → AreTakenBelow count numbers takes (node + 1) (sets ++ (listed ++ (count + node) ∷ []) ∷ [])
+taken_more count numbers takes node sets listed are below = record { len = length-append sets (taken ∷ []) ∙ ap (λ (n : ℕ). n + 1) below.len; each = each }
   where
     taken : List ℕ
-    taken = numbers ++ (length words + node) ∷ []
+    taken = listed ++ (count + node) ∷ []
 
-    last : (set : ℕ) → Contains taken set ↔ TakesSet words takes node set
+    last : (set : ℕ) → Contains taken set ↔ TakesSet count numbers takes node set
     last set = (
-      λ h. elim (of_pushed numbers (length words + node) set h) [ inl x ↦ inl ((are set).0 x) | inr same ↦ inr same ],
-      λ h. elim h [ inl x ↦ Contains-append_left numbers ((length words + node) ∷ []) set ((are set).1 x) | inr same ↦ pushed_here numbers (length words + node) set same ],
+      λ h. elim (of_pushed listed (count + node) set h) [ inl x ↦ inl ((are set).0 x) | inr same ↦ inr same ],
+      λ h. elim h [ inl x ↦ Contains-append_left listed ((count + node) ∷ []) set ((are set).1 x) | inr same ↦ pushed_here listed (count + node) set same ],
     )
 
-    each : (i set : ℕ) → i < node + 1 → IsListedAt (sets ++ taken ∷ []) i set ↔ TakesSet words takes i set
+    each : (i set : ℕ) → i < node + 1 → IsListedAt (sets ++ taken ∷ []) i set ↔ TakesSet count numbers takes i set
     each i set low = elim (cases_eq i node) [
-      | inl same ↦ subst (λ (k : ℕ). IsListedAt (sets ++ taken ∷ []) k set ↔ TakesSet words takes k set) (sym same)
-          (subst (λ (xs : List ℕ). Contains xs set ↔ TakesSet words takes node set) (sym (get_or_at sets taken [] [] node below.len)) (last set))
-      | inr ne ↦ subst (λ (xs : List ℕ). Contains xs set ↔ TakesSet words takes i set) (sym (get_or_append_left sets (taken ∷ []) [] i (let len = below.len in omega (arith, low, ne, len))))
+      | inl same ↦ subst (λ (k : ℕ). IsListedAt (sets ++ taken ∷ []) k set ↔ TakesSet count numbers takes k set) (sym same)
+          (subst (λ (xs : List ℕ). Contains xs set ↔ TakesSet count numbers takes node set) (sym (get_or_at sets taken [] [] node below.len)) (last set))
+      | inr ne ↦ subst (λ (xs : List ℕ). Contains xs set ↔ TakesSet count numbers takes i set) (sym (get_or_append_left sets (taken ∷ []) [] i (let len = below.len in omega (arith, low, ne, len))))
           (below.each i set (omega (arith, low, ne)))
     ]

@@ -4,9 +4,14 @@ use Rattle.std.specs.Prelude.{slice_get, slice_index_or}
 use Rattle.std.specs.List.Sorted.{IsStrictlySortedBy}
 use Rattle.rbac_terms.specs.Text.{Text, text_cmp}
 
--- i takes a word by which j can be had
-abbrev pub SharesWord : List (List Text) → List (List Text) → ℕ → ℕ → Type 0
-SharesWord takes had_by i j = (w : Text) × Contains (slice_index_or takes i []) w
+-- a list at one of these places has it
+abbrev pub IsListedIn : {X : Type 0} → List (List X) → List ℕ → X → Type 0
+IsListedIn lists places x = (place : ℕ) × Contains places place
+    × Contains (slice_index_or lists place []) x
+
+-- i takes a word by which j can be had: a list at one of the places of i has the word
+abbrev pub SharesWord : List (List Text) → List (List ℕ) → List (List Text) → ℕ → ℕ → Type 0
+SharesWord lists takes had_by i j = (w : Text) × IsListedIn lists (slice_index_or takes i []) w
     × Contains (slice_index_or had_by j []) w
 
 -- the number is listed at that place
@@ -27,10 +32,16 @@ pub record AreWordsOf (lists : List (List Text)) (words : List Text) : Type 0 wh
 abbrev pub IsNumberOf : List Text → List Text → ℕ → Type 0
 IsNumberOf words listed number = (w : Text) × Contains listed w × (slice_get words number ≡ Some w)
 
--- node i takes the sets of its words, and one of its own, which comes after the sets of all words
-abbrev pub TakesSet : List Text → List (List Text) → ℕ → ℕ → Type 0
-TakesSet words takes i set = IsNumberOf words (slice_index_or takes i []) set
-    ⊎ (set ≡ length words + i)
+-- the numbers of the words of each list
+abbrev pub AreNumbersOfEach : List Text → List (List Text) → List (List ℕ) → Type 0
+AreNumbersOfEach words lists numbers = (k number : ℕ) → IsListedAt numbers k number
+    ↔ IsNumberOf words (slice_index_or lists k []) number
+
+-- node i takes the sets whose numbers the lists at its places have, and one of its own, which comes
+-- after this many sets
+abbrev pub TakesSet : ℕ → List (List ℕ) → List (List ℕ) → ℕ → ℕ → Type 0
+TakesSet count numbers takes i set = IsListedIn numbers (slice_index_or takes i []) set
+    ⊎ (set ≡ count + i)
 
 -- new is old with the node added to the lists at these places
 pub record AddsToEach (places : List ℕ) (node : ℕ) (old new : List (List ℕ)) : Type 0 where

@@ -6,33 +6,37 @@ ghost use Rattle.std.specs.Prelude.{◌∷◌, [], replicate, slice_get, slice_i
 ghost use Rattle.std.specs.List.Sorted.{IsStrictlySortedBy};
 ghost use Rattle.rbac_terms.specs.Text.{text_cmp};
 ghost use Rattle.rbac_ways.specs.Ways.{IsEdge};
-ghost use Rattle.rbac_ways.specs.Joining.{AddsToEach, AreTurned, AreWordsOf, IsListedAt};
-ghost use Rattle.rbac_ways.specs.Joining.{IsNumberOf, SharesWord, TakesSet};
+ghost use Rattle.rbac_ways.specs.Joining.{AddsToEach, AreNumbersOfEach, AreTurned, AreWordsOf};
+ghost use Rattle.rbac_ways.specs.Joining.{IsListedAt, IsNumberOf, SharesWord, TakesSet};
 
 use crate::graph::Graph;
+use crate::listed::listed_in;
 use rbac_terms::{Items, Word, Words};
 use std::alloc::{AllocError, Global};
 
 impl Graph {
     /// The graph of nodes that share words: an edge leads from a node to another if the first takes
-    /// a word by which the second can be had (own). An edge also leads from each node to the nodes
-    /// that `also` lists for it; `also` has at most one list for each node. Either the words that
-    /// are taken or those by which nodes can be had are sorted, once: whichever are fewer. The
-    /// nodes that can be had by a word are one set, however many nodes take the word. Fails only if
-    /// it runs out of memory.
+    /// a word by which the second can be had (own). A node takes the words of the lists at its
+    /// places, so a list that many nodes take is looked up once. An edge also leads from each node
+    /// to the nodes that `also` lists for it; `also` has at most one list for each node. Either the
+    /// words of the lists or those by which nodes can be had are sorted, once: whichever are fewer.
+    /// The nodes that can be had by a word are one set, however many nodes take the word. Fails only
+    /// if it runs out of memory.
     pub fn joined(
         alloc: Global,
-        takes: &[Words],
+        lists: &[Words],
+        takes: &[Items<usize>],
         had_by: &[Words],
         also: &[Items<usize>],
     ) -> Result<Self, AllocError>
         requires { length also.now ≤ length takes.now }
         ensures nodes { IfOk result (λ g. length g.takes ≡ length takes.now) }
         ensures edges { IfOk result (λ g. (i j : ℕ) → IsEdge g i j ↔ ((j < length takes.now)
-            × (SharesWord takes.now had_by.now i j ⊎ IsListedAt also.now i j))) }
+            × (SharesWord lists.now takes.now had_by.now i j ⊎ IsListedAt also.now i j))) }
     {
-        let words = words_of(alloc, fewer_words(takes, had_by))?;
-        let takes = takes_of(alloc, words.as_slice(), takes)?;
+        let words = words_of(alloc, fewer_words(lists, had_by))?;
+        let numbers = numbers_of_each(alloc, words.as_slice(), lists)?;
+        let takes = takes_of(alloc, words.as_slice(), numbers.as_slice(), takes)?;
         let mut sets = sets_of(alloc, words.as_slice(), had_by)?;
         sets.extend_with_clones(also)?;
         Ok(Graph { takes, sets })
@@ -126,21 +130,41 @@ fn numbers_of(alloc: Global, words: &[Word], listed: &Words) -> Result<Vec<usize
     Ok(numbers)
 }
 
-// The sets that each node takes: those of its words, and one of its own. The own sets come after
-// the sets of all words.
-fn takes_of(alloc: Global, words: &[Word], takes: &[Words]) -> Result<Vec<Items<usize>>, AllocError>
+// For each of these lists, the numbers of its words that are among these words.
+fn numbers_of_each(
+    alloc: Global,
+    words: &[Word],
+    lists: &[Words],
+) -> Result<Vec<Items<usize>>, AllocError>
     requires { IsStrictlySortedBy text_cmp words.now }
+    ensures { IfOk result (λ numbers. AreNumbersOfEach words.now lists.now numbers.items) }
+{
+    let mut numbers = Vec::with_capacity(alloc, lists.len())?;
+    for listed in lists {
+        numbers.push(Items::from_vec(numbers_of(alloc, words, listed)?))?;
+    }
+    Ok(numbers)
+}
+
+// The sets that each node takes: those of the words that the lists at its places have, whose numbers
+// these are, and one of its own. The own sets come after the sets of all words.
+fn takes_of(
+    alloc: Global,
+    words: &[Word],
+    numbers: &[Items<usize>],
+    takes: &[Items<usize>],
+) -> Result<Vec<Items<usize>>, AllocError>
     ensures len { IfOk result (λ sets. length sets.items ≡ length takes.now) }
     ensures each { IfOk result (λ sets. (i set : ℕ) → i < length takes.now
-        → IsListedAt sets.items i set ↔ TakesSet words.now takes.now i set) }
+        → IsListedAt sets.items i set ↔ TakesSet (length words.now) numbers.now takes.now i set) }
 {
-    let mut sets = Vec::with_capacity(alloc, takes.len())?;
-    for (node, listed) in takes.iter().enumerate() {
-        let mut numbers = numbers_of(alloc, words, listed)?;
-        numbers.push(words.len() + node)?;
-        sets.push(Items::from_vec(numbers))?;
+    let mut all = Vec::with_capacity(alloc, takes.len())?;
+    for (node, places) in takes.iter().enumerate() {
+        let mut sets = listed_in(alloc, numbers, places.as_slice())?;
+        sets.push(words.len() + node)?;
+        all.push(Items::from_vec(sets))?;
     }
-    Ok(sets)
+    Ok(all)
 }
 
 // The nodes that can be had by each word.

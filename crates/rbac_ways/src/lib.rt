@@ -5,9 +5,11 @@
 mod by_word;
 mod graph;
 mod joining;
+mod listed;
 mod meeting;
 mod search;
 
 pub use by_word::NodesByWord;
 pub use graph::{Graph, Reached, Stop};
+pub use listed::listed_in;
 pub use search::shortest_ways;

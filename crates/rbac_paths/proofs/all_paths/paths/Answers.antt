@@ -1,10 +1,9 @@
-use Rattle.std.proofs.Common.{◌≡◌, ◌≢◌, ◌↔◌, ◌∙◌, AllPairs, Bor, Contains, List, ℕ, length, map, subst, sym}
+use Rattle.std.proofs.Common.{◌≡◌, ◌≢◌, ◌↔◌, ◌∙◌, AllPairs, Bor, Contains, List, ℕ, map, subst, sym}
 use Rattle.std.proofs.lemmas.Result.{IfOk-weaker}
 use Rattle.std.specs.declared.cmp.Ordering.TheVariants.{Less}
 use Rattle.rbac_terms.specs.Principals.{Who, who_key}
 use Rattle.rbac_terms.specs.Text.{Text, text_cmp}
 use Rattle.rbac_ways.specs.Ways.{AreStops}
-use Rattle.rbac_paths.specs.Deciding.{AreNumbers}
 use Rattle.rbac_paths.specs.NodeLists.{AreNodes, node_text}
 use Rattle.rbac_paths.specs.Nodes.{node_of}
 use Rattle.rbac_paths.specs.Paths.{IsGraphOf}
@@ -61,9 +60,11 @@ paths_by-requires-clause-held c =
     (subst (λ (ts : List Text). AreNodes p all ts (map node_of c.in_ok-nodes.nodes.items)) c.as_slice-2.ensures.value c.in_ok-nodes.ensures) in
     held p c.in_ok-names.ensures.policy all names c.in_ok-names.ensures.names ys are
 
-pub paths_by-requires-clause-numbers : goal.paths_by-requires-clause-numbers
-paths_by-requires-clause-numbers c =
-    subst (AreNumbers c.args.policy.now c.as_slice-rows.result.now (map node_of c.as_slice-nodes.result.now) (length c.as_slice-nodes.result.now)) (sym c.as_slice-numbers.ensures.value) c.in_ok-made.ensures.numbers
+pub paths_by-requires-clause-grants : goal.paths_by-requires-clause-grants
+paths_by-requires-clause-grants c = c.in_ok-made.ensures.grants
+
+pub paths_by-requires-clause-places : goal.paths_by-requires-clause-places
+paths_by-requires-clause-places c = c.in_ok-made.ensures.places
 
 pub paths_by-requires-clause-linked : goal.paths_by-requires-clause-linked
 paths_by-requires-clause-linked c =

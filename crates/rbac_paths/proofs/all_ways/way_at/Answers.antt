@@ -1,11 +1,10 @@
-use Rattle.std.proofs.Common.{◌≡◌, ◌<◌, ◌∙◌, None, Some, arith, get_or, inl, inr, length, map, refl, subst, sym}
+use Rattle.std.proofs.Common.{◌≡◌, ◌<◌, ◌∙◌, None, Some, arith, get_or, inl, inr, length, map, refl, slice_get, subst, sym, ℕ}
 use Rattle.std.proofs.lemmas.Bool.{cases_eq}
 use Rattle.std.proofs.lemmas.List.{length-map}
 use Rattle.std.proofs.lemmas.Option.{slice_get_within}
 use Rattle.std.proofs.lemmas.Result.{IfOk-weaker}
 use Rattle.rbac_paths.specs.Access.{access_of}
 use Rattle.rbac_paths.specs.Aims.{ToTakeOver}
-use Rattle.rbac_paths.specs.Deciding.{AreNumbersOf}
 use Rattle.rbac_paths.specs.Nodes.{node_of}
 use Rattle.rbac_paths.specs.Reasons.{IsReason, reason_view}
 use Rattle.rbac_paths.specs.TakingOver.{TakesOver}
@@ -40,9 +39,6 @@ last_step-requires-clause-policy c = c.requires.policy
 pub last_step-requires-clause-index : goal.last_step-requires-clause-index
 last_step-requires-clause-index c = c.requires.index
 
-pub last_step-requires-clause-all : goal.last_step-requires-clause-all
-last_step-requires-clause-all c = c.requires.all
-
 pub own_way-requires-clause-role : goal.own_way-requires-clause-role
 own_way-requires-clause-role c =
     let found = c.in-Some.ensures.lookup.3 in
@@ -76,13 +72,12 @@ last_step-requires-clause-role c =
     let node = c.in-Some.node.now in
     mapped_has node_of (HasItsRole c.args.policy.now.held) c.args.nodes.now c.args.place node found.0 (found.1 node) c.requires.held
 
-pub last_step-requires-clause-numbers : goal.last_step-requires-clause-numbers
-last_step-requires-clause-numbers c =
-    let p = c.args.policy.now in
+pub last_step-requires-clause-known : goal.last_step-requires-clause-known
+last_step-requires-clause-known c =
+    let ys = map node_of c.args.nodes.now in
     let found = c.in-Some.ensures.lookup.3 in
     let node = c.in-Some.node.now in
-    subst (AreNumbersOf p c.args.steps.now (node_of node)) (sym c.listed_at-own.ensures)
-    (c.requires.numbers.each c.args.place (node_of node) found.0 (mapped_at node_of c.args.nodes.now c.args.place node found.0 (found.1 node)))
+    c.requires.known (node_of node) (subst (λ (k : ℕ). slice_get ys k ≡ Some (node_of node)) (sym c.requires.place) (mapped_at node_of c.args.nodes.now c.args.place node found.0 (found.1 node)))
 
 pub returns-in_default-2 : goal.returns-in_default-2
 returns-in_default-2 c =

@@ -1,16 +1,20 @@
-use Rattle.std.proofs.Common.{◌≡◌, ◌∙◌, List, MatchOption, None, Option, ℕ, get_or, map, subst, sym, take}
-use Rattle.std.proofs.lemmas.List.{get_or_default, take_all, take_more}
+use Rattle.std.proofs.Common.{◌≡◌, ◌∙◌, ◌+◌, ◌<◌, List, MatchOption, None, Option, ℕ, arith, get_or, length, map, subst, sym, take}
+use Rattle.std.proofs.lemmas.List.{get_or_default, length-map, take_all, take_more}
+use Rattle.std.proofs.lemmas.List.Elements.{Contains-get_or}
 use Rattle.std.proofs.lemmas.Bool.{false≢true}
 use Rattle.rbac_ways.specs.Ways.{AreInOrder}
 use Rattle.rbac_ways.specs.declared.graph.Stop.{Stop}
 use Rattle.rbac_paths.specs.Access.{access_of}
 use Rattle.rbac_paths.specs.Nodes.{node_of}
 use Rattle.rbac_paths.specs.TracingWays.{AllowAtEnds, AreLinkedOn, AreWaysAt, IsToldAt, IsUntoldAt, IsWayAt}
+use Rattle.rbac_paths.specs.Told.{HasItsRole}
 use Rattle.rbac_paths.specs.WaysTo.{IsShorter}
+use Rattle.rbac_paths.proofs.Keeping.{deciding_there, node_there}
+use Rattle.rbac_paths.proofs.Mapped.{mapped_at, mapped_has}
 use Rattle.rbac_paths.proofs.Tracing.{matched_none, matched_some, met_before, told_more, told_none, told_same}
 use Rattle.rbac_paths.proofs.WaysTold.{not_come, shorter, told_there}
 use Rattle.rbac_paths.proofs.all_ways.ways_by.Goals as goal
-use Rattle.rbac_paths.proofs.all_ways.ways_by.Goals.{then-is_met+in_ok-way, else-is_met, in-Some+in_ok-push, in_default}
+use Rattle.rbac_paths.proofs.all_ways.ways_by.Goals.{then-is_met+in_ok-known+in_ok-way, else-is_met, in-Some+in_ok-push, in_default}
 
 pub way_at-requires-clause-policy : goal.way_at-requires-clause-policy
 way_at-requires-clause-policy c = c.requires.policy
@@ -18,14 +22,54 @@ way_at-requires-clause-policy c = c.requires.policy
 pub way_at-requires-clause-index : goal.way_at-requires-clause-index
 way_at-requires-clause-index c = c.requires.index
 
-pub way_at-requires-clause-all : goal.way_at-requires-clause-all
-way_at-requires-clause-all c = c.in_ok-all.ensures
-
 pub way_at-requires-clause-held : goal.way_at-requires-clause-held
 way_at-requires-clause-held c = c.requires.held
 
-pub way_at-requires-clause-numbers : goal.way_at-requires-clause-numbers
-way_at-requires-clause-numbers c = c.requires.numbers
+pub bounds-nodes-place : goal.bounds-nodes-place
+bounds-nodes-place c =
+    let nodes = c.args.nodes.now in
+    let ys = map node_of nodes in
+    let items = c.as_slice-place-items.result.now in
+    let i = c.loop-place.place-index in
+    let place = get_or items i 0 in
+    let in_order = subst (λ (order : List ℕ). AreInOrder c.args.reached.now.stops.items order) (sym c.as_slice-place-items.ensures.value) c.requires.order in
+    let low : place < length nodes = (let in_ys = node_there c.args.policy.now c.args.steps.now (access_of c.args.access) ys c.args.reached.now.stops.items items in_order c.requires.linked c.requires.ends place (Contains-get_or items i 0 c.loop-place-test.true) in let len = length-map nodes node_of in omega (arith, in_ys, len)) in
+    low
+
+pub deciding_at-requires-clause-role : goal.deciding_at-requires-clause-role
+deciding_at-requires-clause-role c =
+    let nodes = c.args.nodes.now in
+    let ys = map node_of nodes in
+    let items = c.as_slice-place-items.result.now in
+    let i = c.loop-place.place-index in
+    let place = get_or items i 0 in
+    let in_order = subst (λ (order : List ℕ). AreInOrder c.args.reached.now.stops.items order) (sym c.as_slice-place-items.ensures.value) c.requires.order in
+    let low : place < length nodes = (let in_ys = node_there c.args.policy.now c.args.steps.now (access_of c.args.access) ys c.args.reached.now.stops.items items in_order c.requires.linked c.requires.ends place (Contains-get_or items i 0 c.loop-place-test.true) in let len = length-map nodes node_of in omega (arith, in_ys, len)) in
+    mapped_has node_of (HasItsRole c.args.policy.now.held) nodes place c.index-nodes-place.result low c.index-nodes-place.is c.requires.held
+
+pub way_at-requires-clause-known : goal.way_at-requires-clause-known
+way_at-requires-clause-known c =
+    let steps = c.args.steps.now in
+    let nodes = c.args.nodes.now in
+    let ys = map node_of nodes in
+    let items = c.as_slice-place-items.result.now in
+    let i = c.loop-place.place-index in
+    let place = get_or items i 0 in
+    let in_order = subst (λ (order : List ℕ). AreInOrder c.args.reached.now.stops.items order) (sym c.as_slice-place-items.ensures.value) c.requires.order in
+    let low : place < length nodes = (let in_ys = node_there c.args.policy.now c.args.steps.now (access_of c.args.access) ys c.args.reached.now.stops.items items in_order c.requires.linked c.requires.ends place (Contains-get_or items i 0 c.loop-place-test.true) in let len = length-map nodes node_of in omega (arith, in_ys, len)) in
+    let x = node_of c.index-nodes-place.result in
+    let here = mapped_at node_of nodes place c.index-nodes-place.result low c.index-nodes-place.is in
+    deciding_there c.args.policy.now steps ys c.in_ok-known.known place x here c.in_ok-known.ensures.place
+    (c.in_ok-known.ensures.deciding steps (length c.args.made.now.grants.items + place) c.requires.grants (omega arith) (c.requires.places.each place x low here))
+
+pub deciding_at-requires-clause-policy : goal.deciding_at-requires-clause-policy
+deciding_at-requires-clause-policy c = c.requires.policy
+
+pub deciding_at-requires-clause-index : goal.deciding_at-requires-clause-index
+deciding_at-requires-clause-index c = c.requires.index
+
+pub deciding_at-requires-clause-grants : goal.deciding_at-requires-clause-grants
+deciding_at-requires-clause-grants c = λ n at has. ((c.requires.grants n at).0 has).0
 
 pub way_at-requires-clause-linked : goal.way_at-requires-clause-linked
 way_at-requires-clause-linked c =
@@ -56,7 +100,7 @@ loop-place-preserved c =
     let in_order = subst (λ (order : List ℕ). AreInOrder stops order) (sym c.as_slice-place-items.ensures.value) c.requires.order in
     let later = met_before stops items in_order i place c.loop-place-test.true (get_or_default items i 0 place c.loop-place-test.true) in
     let way : MatchOption c.if-is_met.way' (IsUntoldAt come stops place) (IsToldAt p steps asked ys come stops place) = elim c.if-is_met.branch [
-      | then-is_met+in_ok-way w ↦ rw w.way'-is
+      | then-is_met+in_ok-known+in_ok-way w ↦ rw w.way'-is
           (told_there p steps ys stops asked come place (c.is_met.ensures.0 w.if-is_met.true) _
           (subst (λ (ss : List (Option Stop)). MatchOption w.in_ok-way.way (get_or ss place None ≡ None) (IsWayAt p steps asked ys ss place)) same w.in_ok-way.ensures))
       | else-is_met w ↦ rw w.way'-is

@@ -1,4 +1,4 @@
-use Rattle.std.proofs.Common.{◌≡◌, ◌≢◌, ◌∙◌, AllPairs, Bor, Contains, List, Option, ℕ, ap, length, map, subst, sym}
+use Rattle.std.proofs.Common.{◌≡◌, ◌≢◌, ◌∙◌, AllPairs, Bor, Contains, List, Option, ℕ, ap, map, subst, sym}
 use Rattle.std.proofs.lemmas.Result.{IfOk-weaker}
 use Rattle.std.specs.declared.cmp.Ordering.TheVariants.{Less}
 use Rattle.rbac_terms.specs.Principals.{Who, who_key}
@@ -6,7 +6,6 @@ use Rattle.rbac_terms.specs.Text.{Text, text_cmp}
 use Rattle.rbac_ways.specs.Ways.{AreStops}
 use Rattle.rbac_ways.specs.declared.graph.Stop.{Stop}
 use Rattle.rbac_paths.specs.Access.{access_of}
-use Rattle.rbac_paths.specs.Deciding.{AreNumbers}
 use Rattle.rbac_paths.specs.NodeLists.{AreNodes, node_text}
 use Rattle.rbac_paths.specs.Nodes.{node_of}
 use Rattle.rbac_paths.specs.Paths.{IsGraphOf}
@@ -85,9 +84,11 @@ ways_by-requires-clause-held c =
     (subst (λ (ts : List Text). AreNodes p all ts (map node_of c.in_ok-nodes.nodes.items)) c.as_slice-2.ensures.value c.in_ok-nodes.ensures) in
     held p ok all names bound ys are
 
-pub ways_by-requires-clause-numbers : goal.ways_by-requires-clause-numbers
-ways_by-requires-clause-numbers c =
-    subst (AreNumbers c.args.policy.now c.as_slice-rows.result.now (map node_of c.as_slice-nodes.result.now) (length c.as_slice-nodes.result.now)) (sym c.as_slice-numbers.ensures.value) c.in_ok-made.ensures.numbers
+pub ways_by-requires-clause-grants : goal.ways_by-requires-clause-grants
+ways_by-requires-clause-grants c = c.in_ok-made.ensures.grants
+
+pub ways_by-requires-clause-places : goal.ways_by-requires-clause-places
+ways_by-requires-clause-places c = c.in_ok-made.ensures.places
 
 pub ways_by-requires-clause-linked : goal.ways_by-requires-clause-linked
 ways_by-requires-clause-linked c =

@@ -9,7 +9,7 @@ use Rattle.rbac_paths.specs.declared.steps.Step.{Step}
 use Rattle.rbac_paths.specs.declared.takeover.Takeover.{Takeover}
 use Rattle.rbac_paths.proofs.ByBinding.{list_there, listed_all, listed_more, listed_same, none_listed}
 use Rattle.rbac_paths.proofs.RuleTakeovers.{rule_of_grant}
-use Rattle.rbac_paths.proofs.Takeovers.{matches_none, no_takeovers, not_empty, some_matches}
+use Rattle.rbac_paths.proofs.Takeovers.{matches_none, none_of, not_empty, some_matches}
 use Rattle.rbac_paths.proofs.WhatDecides.{taking_rule}
 use Rattle.rbac_paths.proofs.deciding.taking_grants.Goals as goal
 use Rattle.rbac_paths.proofs.deciding.taking_grants.Goals.{then-not-is_empty+in_ok-push, else-not-is_empty}
@@ -55,7 +55,7 @@ loop-no-preserved c =
       | else-not-is_empty w ↦ rw w.lists-is (
         c.loop-no.invariant.0,
         λ steps have. listed_same p c.requires (IsTakingAt p steps) number lists (c.loop-no.invariant.1 steps have)
-            (λ t. matches_none steps g.rule.rule ts (are steps have) (no_takeovers ts ((unsigned_Decides (length ts) 0).0 (sym c.is_empty.ensures ∙ w.if-not-is_empty.false))) (taking_rule p steps number g of.1 t)),
+            (λ t. matches_none steps g.rule.rule ts (are steps have) (none_of ts ((unsigned_Decides (length ts) 0).0 (sym c.is_empty.ensures ∙ w.if-not-is_empty.false))) (taking_rule p steps number g of.1 t)),
       )
     ]
 

@@ -1,12 +1,15 @@
-use Rattle.std.proofs.Common.{◌≡◌, ◌∙◌, List, Some, ℕ, arith, length, map, slice_get, subst, sym}
+use Rattle.std.proofs.Common.{◌≡◌, ◌+◌, ◌++◌, ◌∙◌, ◌∷◌, [], Contains, List, Some, ap, append-nil, append_assoc, arith, get_or, length, map, refl, slice_get, subst, sym, ℕ}
 use Rattle.std.proofs.lemmas.List.{length-map}
-use Rattle.std.proofs.lemmas.Option.{same_Some}
-use Rattle.rbac_paths.specs.Deciding.{AreNumbersOf, IsAnyNode}
+use Rattle.std.proofs.lemmas.Option.{same_Some, slice_get_within}
+use Rattle.rbac_terms.specs.Text.{Text}
+use Rattle.rbac_ways.specs.Joining.{IsListedIn}
+use Rattle.rbac_paths.specs.Deciding.{ArePlaces, ArePlacesOf, IsAnyNode}
 use Rattle.rbac_paths.specs.Having.{HoldingView}
-use Rattle.rbac_paths.specs.Joints.{AreJoints, AreOthers, DecideOn, IsNobody, TakesByWords}
+use Rattle.rbac_paths.specs.Joints.{AreFewGrants, AreJoints, AreOthers, DecideOn, IsNobody, TakesByWords}
 use Rattle.rbac_paths.specs.Nodes.{NodeView, node_of}
 use Rattle.rbac_paths.specs.Told.{HasItsRole}
 use Rattle.rbac_paths.proofs.GraphOf.{graph_is, joints_more, joints_none, ok_both}
+use Rattle.rbac_paths.proofs.ListPlaces.{each_takes}
 use Rattle.rbac_paths.proofs.Mapped.{mapped_at, mapped_has}
 use Rattle.rbac_paths.proofs.graph.joined.Goals as goal
 
@@ -23,31 +26,19 @@ pub rules_held-requires-clause-role : goal.rules_held-requires-clause-role
 rules_held-requires-clause-role c =
     mapped_has node_of (HasItsRole c.args.policy.now.held) c.args.nodes.now c.loop-place.place c.index-nodes-place.result c.loop-place-test.true c.index-nodes-place.is c.requires.held
 
-pub words_taken-requires-clause-policy : goal.words_taken-requires-clause-policy
-words_taken-requires-clause-policy c = c.requires.policy
+pub words_of_bindings-requires : goal.words_of_bindings-requires
+words_of_bindings-requires c = λ n at has. ((c.requires.grants n at).0 has).0
 
-pub words_taken-requires-clause-takeovers : goal.words_taken-requires-clause-takeovers
-words_taken-requires-clause-takeovers c = c.requires.takeovers
-
-pub words_taken-requires-clause-numbers : goal.words_taken-requires-clause-numbers
-words_taken-requires-clause-numbers c =
-    let place = c.loop-place.place in
-    let x = node_of c.index-nodes-place.result in
-    let at = mapped_at node_of c.args.nodes.now place c.index-nodes-place.result c.loop-place-test.true c.index-nodes-place.is in
-    subst (AreNumbersOf c.args.policy.now c.args.steps.now x) (sym c.listed_at-own.ensures) (c.requires.numbers.each place x c.loop-place-test.true at)
+pub few_of_bindings-requires : goal.few_of_bindings-requires
+few_of_bindings-requires c = λ n at has. ((c.requires.grants n at).0 has).0
 
 pub few_taken-requires-clause-policy : goal.few_taken-requires-clause-policy
 few_taken-requires-clause-policy c = c.requires.policy
 
-pub few_taken-requires-clause-takeovers : goal.few_taken-requires-clause-takeovers
-few_taken-requires-clause-takeovers c = c.requires.takeovers
-
-pub few_taken-requires-clause-numbers : goal.few_taken-requires-clause-numbers
-few_taken-requires-clause-numbers c =
-    let place = c.loop-place.place in
-    let x = node_of c.index-nodes-place.result in
-    let at = mapped_at node_of c.args.nodes.now place c.index-nodes-place.result c.loop-place-test.true c.index-nodes-place.is in
-    subst (AreNumbersOf c.args.policy.now c.args.steps.now x) (sym c.listed_at-own.ensures) (c.requires.numbers.each place x c.loop-place-test.true at)
+pub few_taken-requires-clause-few : goal.few_taken-requires-clause-few
+few_taken-requires-clause-few c =
+    let few = subst (λ (fs : List (List ℕ)). AreFewGrants c.args.policy.now c.args.steps.now c.args.grants.now fs) (sym c.as_slice-few.ensures.value) (c.in_ok-few.ensures c.args.steps.now c.requires.takeovers) in
+    λ n at has. ((c.requires.grants n at).0 ((few at n).0 has).0).0
 
 pub others_taken-requires-clause-writing : goal.others_taken-requires-clause-writing
 others_taken-requires-clause-writing c = c.as_slice-writing.ensures.value ∙ c.in_ok-rows.ensures
@@ -57,7 +48,7 @@ others_taken-requires-clause-others c = c.in_ok-others.ensures
 
 pub loop-place-init : goal.loop-place-init
 loop-place-init c =
-    joints_none c.args.policy.now c.args.steps.now (map node_of c.args.nodes.now) _ _ c.in_ok-takes.ensures.items c.in_ok-also.ensures.items
+    ([], sym (append-nil c.in_ok-lists.lists.items), joints_none c.args.policy.now c.args.steps.now (map node_of c.args.nodes.now) [] c.in_ok-also.also.items refl c.in_ok-also.ensures.items)
 
 pub loop-place-preserved : goal.loop-place-preserved
 loop-place-preserved c =
@@ -70,21 +61,40 @@ loop-place-preserved c =
     let is : (y : NodeView) → slice_get ys place ≡ Some y → x ≡ y = λ y there. same_Some x y (sym at ∙ there) in
     let held : IsNobody x → DecideOn p steps x c.as_slice-held.result.now IsAnyNode = λ nobody.
     subst (λ (h : List HoldingView). DecideOn p steps x h IsAnyNode) (sym c.as_slice-held.ensures.value) (c.in_ok-holdings.ensures steps nobody) in
-    let few = subst (λ (h : List HoldingView). DecideOn p steps x h IsNobody) (sym c.as_slice-few.ensures.value) (c.in_ok-few.ensures held) in
-    let ws = c.in_ok-words_taken.field-0 in
+    let grants = c.args.grants.now in
+    let few = subst (λ (fs : List (List ℕ)). AreFewGrants p steps grants fs) (sym c.as_slice-few.ensures.value) (c.in_ok-few.ensures steps c.requires.takeovers) in
+    let own = subst (λ (ps : List ℕ). ArePlacesOf p grants (length grants + place) x ps) (sym c.listed_at-own.ensures) (c.requires.places.each place x c.loop-place-test.true at) in
+    let over = subst (λ (h : List HoldingView). DecideOn p steps x h IsNobody) (sym c.as_slice-over.ensures.value) (c.in_ok-over.ensures grants (length grants + place) (omega arith) c.requires.grants few own held) in
+    let bound = c.in_ok-lists.lists.items in
+    let before = c.loop-place.invariant.0 in
+    let ws = c.in_ok-words_held.field-0 in
     let js = c.in_ok-others_taken.field-0 in
-    rw (c.in_ok-push.ensures.items, c.in_ok-push-2.ensures.items)
-    (joints_more p steps ys place c.loop-place.takes.items c.loop-place.also.items ws js c.loop-place.invariant
-    (λ y there. subst (λ (z : NodeView). TakesByWords p steps z ws) (is y there) (c.in_ok-words_taken.ensures held))
-    (λ y there. subst (λ (z : NodeView). AreOthers p steps z ys js) (is y there) (c.in_ok-others_taken.ensures p few)))
+    rw c.in_ok-push-2.ensures.items (
+      before ++ ws ∷ [],
+      c.in_ok-push.ensures.items ∙ ap (λ (ls : List (List Text)). ls ++ ws ∷ []) c.loop-place.invariant.1 ∙ append_assoc bound before (ws ∷ []),
+      joints_more p steps ys place before c.loop-place.also.items ws js c.loop-place.invariant.2
+          (λ y there nobody. subst (λ (z : NodeView). TakesByWords p steps z (λ w. Contains ws w)) (is y there) (c.in_ok-words_held.ensures p (held (subst (λ (z : NodeView). IsNobody z) (sym (is y there)) nobody))))
+          (λ y there. subst (λ (z : NodeView). AreOthers p steps z ys js) (is y there) (c.in_ok-others_taken.ensures p over)),
+    )
 
 pub returns : goal.returns
 returns c =
     let p = c.args.policy.now in
     let steps = c.args.steps.now in
-    let ys = map node_of c.args.nodes.now in
-    let end : c.loop-place.place ≡ length ys = (let test = c.loop-place-test.false in let low = c.loop-place.auto.place-end in let e : c.loop-place.place ≡ length c.args.nodes.now = omega (arith, test, low) in e) ∙ sym (length-map c.args.nodes.now node_of) in
-    let joints = subst (λ (n : ℕ). AreJoints p steps ys n c.loop-place.takes.items c.loop-place.also.items) end c.loop-place.invariant in
-    let there = rw (← c.as_slice.ensures.value, ← c.as_slice-3.ensures.value) at joints in
-    let had = rw (← c.as_slice-2.ensures.value, ← length-map c.args.nodes.now node_of) at c.in_ok-had_by.ensures in
-    ok_both c.joined.result _ _ _ (λ g len edges. graph_is p steps ys c.as_slice.result.now c.as_slice-2.result.now c.as_slice-3.result.now there had g len edges) c.joined.ensures.nodes c.joined.ensures.edges
+    let nodes = c.args.nodes.now in
+    let ys = map node_of nodes in
+    let len = length-map nodes node_of in
+    let end : c.loop-place.place ≡ length ys = (let test = c.loop-place-test.false in let low = c.loop-place.auto.place-end in let e : c.loop-place.place ≡ length nodes = omega (arith, test, low) in e) ∙ sym len in
+    let own = c.loop-place.invariant.0 in
+    let bound = c.in_ok-lists.lists.items in
+    let joints = subst (λ (n : ℕ). AreJoints p steps ys n own c.loop-place.also.items) end c.loop-place.invariant.2 in
+    let places = subst (λ (n : ℕ). ArePlaces p c.args.grants.now ys n c.args.places.now) (sym len) c.requires.places in
+    let lists : c.as_slice-lists.result.now ≡ bound ++ own = c.as_slice-lists.ensures.value ∙ c.loop-place.invariant.1 in
+    let words = each_takes p c.requires.policy steps c.args.grants.now c.requires.grants bound own (c.in_ok-lists.ensures steps c.requires.takeovers) ys c.args.places.now c.loop-place.also.items places joints in
+    let had = rw (← c.as_slice.ensures.value, ← len) at c.in_ok-had_by.ensures in
+    ok_both c.joined.result _ _ _
+    (λ g takes_len edges. graph_is p steps ys c.as_slice-lists.result.now c.args.places.now c.as_slice.result.now c.as_slice-2.result.now places.len
+    (λ i x there. subst (λ (ls : List (List Text)). TakesByWords p steps x (λ w. IsListedIn ls (get_or c.args.places.now i []) w)) (sym lists) (words i x there))
+    (λ i x there. subst (λ (js : List (List ℕ)). AreOthers p steps x ys (get_or js i [])) (sym c.as_slice-2.ensures.value) (joints.others i x (slice_get_within ys i x there) there))
+    had g takes_len edges)
+    c.joined.ensures.nodes c.joined.ensures.edges

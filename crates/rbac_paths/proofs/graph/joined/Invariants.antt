@@ -1,7 +1,8 @@
-use Rattle.std.proofs.Common.{map}
+use Rattle.std.proofs.Common.{◌≡◌, ◌++◌, List, map}
+use Rattle.rbac_terms.specs.Text.{Text}
 use Rattle.rbac_paths.specs.Joints.{AreJoints}
 use Rattle.rbac_paths.specs.Nodes.{node_of}
 use Rattle.rbac_paths.proofs.graph.joined.Given as goal
 
 abbrev pub invariant-loop-place : goal.invariant-loop-place
-invariant-loop-place l = AreJoints l.policy l.steps (map node_of l.nodes) l.place l.takes.items l.also.items
+invariant-loop-place l = (own : List (List Text)) × (l.lists.items ≡ l.initial.lists.items ++ own) × AreJoints l.policy l.steps (map node_of l.nodes) l.place own l.also.items

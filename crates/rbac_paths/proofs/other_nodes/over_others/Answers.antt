@@ -2,12 +2,9 @@ use Rattle.std.proofs.Common.{◌+◌, ◌++◌, ◌∷◌, List, [], arith, sub
 use Rattle.std.proofs.lemmas.List.{take_all}
 use Rattle.rbac_paths.specs.Having.{HoldingView}
 use Rattle.rbac_paths.specs.Joints.{AreOverOthers}
-use Rattle.rbac_paths.specs.Takeovers.{AreTakeovers}
-use Rattle.rbac_paths.specs.declared.takeover.Takeover.{Takeover}
 use Rattle.rbac_paths.proofs.Others.{over_more, over_same}
-use Rattle.rbac_paths.proofs.Takeovers.{may_take}
 use Rattle.rbac_paths.proofs.other_nodes.over_others.Goals as goal
-use Rattle.rbac_paths.proofs.other_nodes.over_others.Goals.{then-some_is_over_nobody+in_ok-push, else-some_is_over_nobody}
+use Rattle.rbac_paths.proofs.other_nodes.over_others.Goals.{then-some_may_take+in_ok-push, else-some_may_take}
 
 pub loop-held-preserved : goal.loop-held-preserved
 loop-held-preserved c =
@@ -16,17 +13,13 @@ loop-held-preserved c =
     let i = c.loop-held.held-index in
     let h = c.held-item.result in
     let few = c.loop-held.few.items in
-    let ts = c.as_slice.result.now in
-    let are : AreTakeovers steps h.rule ts = subst (λ (xs : List Takeover). AreTakeovers steps h.rule xs) (sym c.as_slice.ensures)
-    (subst (λ (v : HoldingView). AreTakeovers steps v.rule c.in_ok-takeovers.takeovers) c.held.view_is c.in_ok-takeovers.ensures) in
-    let may = may_take steps h ts are in
-    elim c.if-some_is_over_nobody.branch [
-      | then-some_is_over_nobody+in_ok-push w ↦ rw (w.few-is, w.in_ok-push.ensures.items)
+    elim c.if-some_may_take.branch [
+      | then-some_may_take+in_ok-push w ↦ rw (w.few-is, w.in_ok-push.ensures.items)
           (subst (λ (z : HoldingView). AreOverOthers steps (take (i + 1) hs) (few ++ z ∷ [])) (sym c.held.view_is)
-          (over_more steps hs i h c.loop-held-test.true c.held-item.is few c.loop-held.invariant (may.0 (c.some_is_over_nobody.ensures.0 w.if-some_is_over_nobody.true))))
-      | else-some_is_over_nobody w ↦ rw w.few-is
+          (over_more steps hs i h c.loop-held-test.true c.held-item.is few c.loop-held.invariant (c.some_may_take.ensures.0 w.if-some_may_take.true)))
+      | else-some_may_take w ↦ rw w.few-is
           (over_same steps hs i h c.loop-held-test.true c.held-item.is few c.loop-held.invariant
-          (λ t. (let both = c.some_is_over_nobody.ensures.1 (may.1 t) in let not = w.if-some_is_over_nobody.false in cc)))
+          (λ t. (let both = c.some_may_take.ensures.1 t in let not = w.if-some_may_take.false in cc)))
     ]
 
 pub returns : goal.returns

@@ -1,18 +1,18 @@
-use Rattle.std.proofs.Common.{◌↔◌, [], List, ℕ, Contains, arith, subst}
+use Rattle.std.proofs.Common.{◌↔◌, [], List, ℕ, Contains, arith, length, subst}
 use Rattle.std.proofs.lemmas.List.{get_or_read}
-use Rattle.rbac_terms.specs.Text.{Text}
-use Rattle.rbac_ways.specs.Joining.{IsNumberOf}
+use Rattle.rbac_ways.specs.Joining.{IsListedIn}
 use Rattle.rbac_ways.proofs.Numbering.{taken_more}
 use Rattle.rbac_ways.proofs.joining.takes_of.Goals as goal
 
 pub loop-node-preserved : goal.loop-node-preserved
 loop-node-preserved c =
-    let words = c.args.words.now in
+    let numbers = c.args.numbers.now in
     let takes = c.args.takes.now in
     let node = c.loop-node.node in
-    let numbers = c.in_ok-numbers.numbers.items in
-    rw (c.in_ok-push-2.ensures.items, c.from_vec.ensures, c.in_ok-push.ensures.items) (taken_more words takes node c.loop-node.sets.items numbers
-    (subst (λ (listed : List Text). (number : ℕ) → Contains numbers number ↔ IsNumberOf words listed number) (get_or_read takes node c.index-takes-node.result c.loop-node-test.true c.index-takes-node.is []) c.in_ok-numbers.ensures)
+    let listed = c.in_ok-sets.sets.items in
+    let are = subst (λ (places : List ℕ). (set : ℕ) → Contains listed set ↔ IsListedIn numbers places set) c.as_slice.ensures c.in_ok-sets.ensures in
+    rw (c.in_ok-push-2.ensures.items, c.from_vec.ensures, c.in_ok-push.ensures.items) (taken_more (length c.args.words.now) numbers takes node c.loop-node.all.items listed
+    (subst (λ (places : List ℕ). (set : ℕ) → Contains listed set ↔ IsListedIn numbers places set) (get_or_read takes node c.index-takes-node.result c.loop-node-test.true c.index-takes-node.is []) are)
     c.loop-node.invariant)
 
 pub returns-clause-each : goal.returns-clause-each

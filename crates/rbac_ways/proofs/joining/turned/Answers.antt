@@ -1,4 +1,4 @@
-use Rattle.std.proofs.Common.{◌↔◌, [], List, ℕ, Contains, arith, length, subst, ◌∙◌}
+use Rattle.std.proofs.Common.{◌↔◌, [], List, ℕ, Contains, arith, subst, ◌∙◌}
 use Rattle.std.proofs.lemmas.List.{get_or_read}
 use Rattle.rbac_ways.specs.Joining.{IsListedAt}
 use Rattle.rbac_ways.proofs.Turning.{all_turned, listed_more}

@@ -1,5 +1,4 @@
-use Rattle.std.proofs.Common.{◌↔◌, [], Contains, subst}
-use Rattle.rbac_terms.specs.Text.{Text}
+use Rattle.std.proofs.Common.{◌↔◌, [], ℕ, Contains, List, subst, sym}
 use Rattle.rbac_ways.specs.Joining.{HasUnder}
 use Rattle.rbac_paths.specs.Joints.{OthersView}
 use Rattle.rbac_paths.proofs.other_nodes.Others.at.Goals as goal
@@ -11,5 +10,5 @@ returns-in-Some c j =
 pub returns-in-None : goal.returns-in-None
 returns-in-None c j =
     rw c.in-None.is
-    (subst (λ (o : OthersView). Contains c.under-in-None-2.result.now j ↔ HasUnder o.by_scope [] j) c.self.view_is
-    (subst (λ (w : Text). Contains c.under-in-None-2.result.now j ↔ HasUnder c.self.inside.by_scope w j) c.new.ensures (c.under-in-None-2.ensures j)))
+    (subst (λ (o : OthersView). Contains c.as_slice.result.now j ↔ HasUnder o.by_scope [] j) c.self.view_is
+    (subst (λ (ns : List ℕ). Contains ns j ↔ HasUnder c.self.inside.by_scope [] j) (sym c.as_slice.ensures.value) (c.self.invariant j)))

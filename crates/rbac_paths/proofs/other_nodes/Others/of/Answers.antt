@@ -14,3 +14,8 @@ returns c =
     let n = c.in_ok-by_scope.by_scope in
     among_others ys all (subst (λ (k : ℕ). AreScopeWords ys k all) (sym (length-map c.args.nodes.now node_of)) c.in_ok-scopes.ensures) c.in_ok-places.places.items c.in_ok-places.ensures n
     (subst (λ (ls : List (List Text)). (w : Text) (j : ℕ) → HasUnder n w j ↔ Contains (get_or ls j []) w) c.as_slice.ensures.value c.in_ok-by_scope.ensures)
+
+pub invariant_of-result : goal.invariant_of-result
+invariant_of-result c j =
+    rw (c.in_ok-extend_from_slice.ensures.items, c.new-in_cluster.ensures.items)
+    (subst (λ (w : Text). Contains c.under-2.result.now j ↔ HasUnder c.in_ok-by_scope.by_scope w j) c.new.ensures (c.under-2.ensures j))

@@ -1,9 +1,0 @@
-use Rattle.std.proofs.Common.{[], List, take}
-use Rattle.rbac_paths.specs.Takeovers.{HaveTakeovers}
-use Rattle.rbac_paths.specs.declared.steps.Step.{Step}
-use Rattle.rbac_paths.proofs.Others.{GivesOther}
-use Rattle.rbac_paths.proofs.WordsAdded.{AddsOf}
-use Rattle.rbac_paths.proofs.other_nodes.over_others_of_grants.Given as goal
-
-abbrev pub invariant-loop-no : goal.invariant-loop-no
-invariant-loop-no l = (steps : List Step) → HaveTakeovers l.policy.held steps l.takeovers → AddsOf (GivesOther l.policy steps) (take l.no-index l.numbers) [] l.few.items
