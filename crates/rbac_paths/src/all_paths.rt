@@ -169,6 +169,7 @@ fn paths_by<'p>(
         };
         let before = nodes[stop.before];
         if known.place != stop.before {
+            // (policy and index are lent anew, for as long as `all` lives)
             known = deciding_at(alloc, &*policy, &*index, &all, made, stop.before, before)?;
         }
         let node = nodes[*place];

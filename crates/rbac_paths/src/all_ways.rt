@@ -193,6 +193,7 @@ fn ways_by<'p>(
     for place in reached.order.as_slice() {
         let way = if is_met(come, *place) {
             let node = nodes[*place];
+            // (policy and index are lent anew, for as long as `all` lives)
             let known = deciding_at(alloc, &*policy, &*index, &all, made, *place, node)?;
             way_at(
                 alloc, policy, index, steps, access, nodes, &known, stops, *place,

@@ -46,7 +46,7 @@ pub(crate) fn taking_grants(
     Ok(lists)
 }
 
-// As many empty lists.
+// This many empty lists.
 fn no_numbers(alloc: Global, count: usize) -> Result<Vec<Items<u32>>, AllocError>
     ensures { IfOk result (λ lists. lists.items ≡ replicate count []) }
 {
