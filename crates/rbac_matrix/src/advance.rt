@@ -16,15 +16,15 @@ use crate::seat::{Seat, seat_after, seat_at_least};
 use crate::walk::next_below;
 use rbac_reaches::Meter;
 
-// Whether a seat is at the place and its number is below `end`.
+// Whether the seat is at the place, and its grant's number `no` is below `end`.
 fn stands_below(seat: Seat, no: u32, place: u32, end: u32) -> bool
     ensures { IsTrue result ↔ ((no < end) × (seat.place ≡ place)) }
 {
     no < end && seat.place() == place
 }
 
-// Moves each seat of a block that is at the place on by one entry, if its grant's number is below
-// `end`.
+// Each seat of the block that is at the place moves on to its next entry, if its grant's number is
+// below `end`.
 fn advance_in(
     basis: Basis<'_>,
     line: Line<'_>,
@@ -60,7 +60,7 @@ fn advance_in(
     }
 }
 
-// Moves each seat that is at the place on by one entry, if its grant's number is below `end`.
+// Each seat that is at the place moves on to its next entry, if its grant's number is below `end`.
 pub(crate) fn advance(
     basis: Basis<'_>,
     line: Line<'_>,
@@ -97,7 +97,7 @@ pub(crate) fn advance(
     }
 }
 
-// Moves each seat of a block that is before the place on to its first entry from there on.
+// Each seat of the block that is before the place moves on to its first entry from the place on.
 fn advance_in_to(
     basis: Basis<'_>,
     line: Line<'_>,
@@ -130,7 +130,7 @@ fn advance_in_to(
     }
 }
 
-// Moves each seat that is before the place on to its first entry from there on.
+// Each seat that is before the place moves on to its first entry from the place on.
 pub(crate) fn advance_to(
     basis: Basis<'_>,
     line: Line<'_>,

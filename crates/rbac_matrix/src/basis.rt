@@ -1,10 +1,10 @@
-//! What rows are worked out from.
+//! What the rows of a matrix are computed from.
 
 use rbac_index::Index;
 use rbac_reaches::Reach;
 use rbac_universe::Universe;
 
-/// An index, a universe, and for each grant the reach of its rule over that universe.
+/// An index, a universe, and the reach of each grant's rule over this universe.
 #[derive(Clone, Copy)]
 pub(crate) struct Basis<'m> {
     pub(crate) index: &'m Index<'m>,

@@ -1,5 +1,5 @@
-//! Blocks of a line's grants, each with its least seat: a row looks at the blocks, and only at the
-//! seats of those blocks that have it.
+//! Blocks of a line's grants, each with the least of its seats. The next row is found by the blocks
+//! alone, and then only the seats in blocks that have the row are visited.
 
 ghost use Rattle.std.specs.Prelude.{◌≡◌, ◌<◌, ◌≤◌, ◌⊎◌, ◌↔◌, ℕ, IsTrue, MatchOption};
 ghost use Rattle.std.specs.Prelude.{length, set};
@@ -18,19 +18,21 @@ use rbac_index::Index;
 // The most blocks of a line.
 const MOST_BLOCKS: usize = 64;
 
-/// Consecutive grants of a line, and the least of their seats.
+/// Some of a line's grants, those with numbers from `walk.next` up to `end`, and the least of their
+/// seats.
 #[derive(Clone, Copy, Default)]
 pub(crate) struct Block {
-    // A walk that comes to these grants first, and where they end.
+    // A walk that begins at the first of these grants, and the number after the last of them.
     pub(crate) walk: Walk,
     pub(crate) end: u32,
-    // The least place that one of their seats is at, and the first grant whose seat is there.
+    // The least place that one of their seats is at, and the first grant whose seat is there. If no
+    // seat is at an entry, the place is the greatest number.
     place: u32,
     number: u32,
 }
 
 impl Block {
-    // The block with one more grant, whose seat is at the place, and which ends there.
+    // The block with one more grant `no`, whose seat is at `place`. The block then ends at `end`.
     fn with(self, no: u32, end: u32, place: u32) -> Self
         ensures { result ≡ joined self no end place }
     {
@@ -43,7 +45,7 @@ impl Block {
         }
     }
 
-    // Whether the block's least seat is at the place, and its number is below `end`.
+    // Whether the block's least seat is at the place, and belongs to a grant below `end`.
     pub(crate) fn stands_below(self, place: u32, end: u32) -> bool
         ensures { IsTrue result ↔ ((self.place ≡ place) × (self.number < end)) }
     {
@@ -57,7 +59,7 @@ impl Block {
         self.place < place
     }
 
-    // The block after its seats moved.
+    // The same block after its seats have moved: its least seat is searched for again.
     pub(crate) fn renewed(
         self,
         index: &Index<'_>,
@@ -93,7 +95,7 @@ impl Block {
     }
 }
 
-/// The blocks of a line, which have all of its seats that are at an entry.
+/// The blocks of a line. Each of the line's seats that is at an entry is in a block.
 #[derive(Drop)]
 pub(crate) struct Blocks {
     kept: ArrayVec<Block, MOST_BLOCKS>,
@@ -130,7 +132,7 @@ impl Blocks {
         self.kept.as_mut_slice()[at] = block;
     }
 
-    // Whether a grant begins a new block where the last one takes so many more.
+    // Whether the next grant begins a new block, given how many more grants the last block takes.
     fn begins_block(&self, room: usize) -> bool
         ensures begins { IsTrue result → length self.now.kept.items < 64 }
         ensures joins { ¬ IsTrue result → (0 < room) ⊎ (length self.now.kept.items ≡ 64) }
@@ -138,7 +140,8 @@ impl Blocks {
         room == 0 && !self.kept.is_full()
     }
 
-    // Makes these the blocks of a line, so many of whose seats are at an entry.
+    // Replaces the blocks with those of this line. About `filled` of its seats are at an entry:
+    // this decides only how many grants a block takes.
     pub(crate) fn fill(
         &mut self,
         index: &Index<'_>,
@@ -180,8 +183,9 @@ impl Blocks {
         }
     }
 
-    // A place before which no seat of a grant from this number on is, and the least such place
-    // unless a block has grants on both sides of that number.
+    // No seat of a grant from this number on is at a place before the result. The result is the
+    // least place of these seats, unless a block has grants on both sides of the number. It is the
+    // greatest number if no seat is at an entry.
     pub(crate) fn least_from(&self, first: u32) -> u32
         ensures { (i : ℕ) → i < length self.now.kept.items
             → first < (block_at self.now.kept.items i).end
@@ -196,7 +200,8 @@ impl Blocks {
         place
     }
 
-    // The least place that a seat of the blocks is at, with the first grant whose seat is there.
+    // The least place that a seat of the blocks is at, with the first grant whose seat is there;
+    // `None` if no seat is at an entry.
     pub(crate) fn least(&self) -> Option<(u32, u32)>
         ensures { MatchOption result
             ((i : ℕ) → i < length self.now.kept.items

@@ -1,4 +1,4 @@
-//! The grants of the bindings that name a principal and may be live in a namespace, in runs.
+//! The grants of the bindings that name a principal and may be live in a namespace, as runs.
 
 ghost use Rattle.std.specs.Prelude.{◌≡◌, ◌<◌, ◌≤◌, ◌↔◌, [], ℕ, IsTrue, Some, length, slice_get};
 ghost use Rattle.std.specs.Prelude.{Any, false};
@@ -25,22 +25,25 @@ use rbac_universe::Universe;
 // The most runs of a line that are kept.
 const MOST_RUNS: usize = 1_024;
 
-// The most grants of a line of which it is kept which verbs each has.
+// For how many of a line's grants the verbs are kept.
 const MOST_GRANTS: usize = 128;
 
-/// The first runs of the grants whose bindings name who asks and may be live on a line.
+/// The first runs of a line's grants: those whose bindings name the line's principal and may be
+/// live in its namespace.
 #[derive(Drop)]
 pub(crate) struct Runs {
-    // At most `MOST_RUNS`; a line's walks look up the others, or step over grants to come to them.
+    // At most `MOST_RUNS`. If there are more, walks look up the other runs, or step over grants
+    // until they come to them.
     kept: ArrayVec<Run, MOST_RUNS>,
-    // Whether there are no other runs.
+    // Whether it is known that there are no other runs.
     are_all: bool,
-    // Whether the namespace of the line has no RoleBinding. Then the runs are those of
-    // ClusterRoleBindings, and the same in every such namespace.
+    // If true, the namespace of the line has no RoleBinding. So the runs are those of
+    // ClusterRoleBindings, and the principal has the same runs in every such namespace.
     is_bare: bool,
-    // The verbs of the universe that one of these grants has, or more.
+    // A set that has each verb of the line's grants, and maybe other verbs. If a grant has all
+    // verbs, the set has no room, so it lacks no verb.
     verbs: VerbPlaces,
-    // Of the first of these grants, which verbs each has.
+    // Which verbs the rule of each of the first grants has.
     grants: ArrayVec<GrantVerbs, MOST_GRANTS>,
 }
 
@@ -58,7 +61,7 @@ impl Runs {
         }
     }
 
-    // The first runs of the line, and the verbs that their grants have.
+    // The first runs of the line, with the verbs that its grants have.
     pub(crate) fn of(index: &Index<'_>, universe: &Universe, line: Line<'_>) -> Self
         ensures runs { AreRunsOf index.now universe.now (line_of line.entry) result }
         ensures bare { ServeBare index.now universe.now line.entry.principal.now result }
@@ -68,9 +71,9 @@ impl Runs {
         runs
     }
 
-    // Makes these the first runs of the line, with the verbs that their grants have. Those that are
-    // known of a grant are left. Not inlined, since a function clears the room for its own values
-    // whenever it is called.
+    // Replaces the runs and verbs with those of this line. Verbs that are known of a grant are
+    // kept. Not inlined: a function clears the room for its own values at each call, so callers
+    // would clear the room for this function's values too.
     #[inline(never)]
     pub(crate) fn fill(&mut self, index: &Index<'_>, universe: &Universe, line: Line<'_>)
         requires { KeepGrantVerbs index.now universe.now self.old }
@@ -81,8 +84,8 @@ impl Runs {
         self.fill_verbs(index, universe, line);
     }
 
-    // Makes these the first runs of the line; its verbs aren't filled in yet. The first of them are
-    // found together; where there are more, each is looked up.
+    // Replaces the runs with the first runs of this line, but doesn't fill in the verbs. The first
+    // runs are found together. If there are more, each of the others is looked up.
     fn fill_runs(&mut self, index: &Index<'_>, line: Line<'_>)
         ensures runs { AreRuns index.now (line_of line.entry) self.new }
         ensures bare { IsTrue self.new.is_bare
@@ -97,7 +100,7 @@ impl Runs {
         self.is_bare = !subjects.has_role_bindings(line.namespace);
     }
 
-    // Keeps these runs in place of all others.
+    // Replaces all runs with these.
     fn keep_first(&mut self, found: &FirstRuns)
         ensures runs { (p : PolicyView) (l : LineView)
             → AreRunsFrom p l.who l.namespace found.now.are_all 0 found.now.runs.items
@@ -108,12 +111,12 @@ impl Runs {
         self.kept.clear();
         match self.kept.try_extend_from_slice(found.runs.as_slice()) {
             Ok(()) => self.are_all = found.are_all,
-            // There is room. If there weren't, none would be kept.
+            // There is always room. Without room, no run would be kept.
             Err(_) => self.are_all = false,
         }
     }
 
-    // Keeps the runs after those that are kept too, as many as there is room for.
+    // Adds the runs that follow the kept ones, as many as there is room for.
     fn keep_others(&mut self, index: &Index<'_>, line: Line<'_>)
         requires { AreRuns index.now (line_of line) self.old }
         ensures runs { AreRuns index.now (line_of line.entry) self.new }
@@ -135,7 +138,7 @@ impl Runs {
         }
     }
 
-    // The number after those of the last run that is kept; 0 if there is none.
+    // Where the last kept run ends; 0 if no run is kept.
     fn kept_end(&self) -> u32
         ensures { result ≡ end_after 0 self.now.kept.items }
     {
@@ -145,8 +148,8 @@ impl Runs {
         }
     }
 
-    // Fills in which verbs these grants have: all of them, and each of the first of them. Past those
-    // there is nothing to look for once no verb is lacking.
+    // Fills in which verbs the line's grants have, and which verbs each of the first grants has.
+    // Later grants are looked at only as long as some verb is lacking.
     fn fill_verbs(&mut self, index: &Index<'_>, universe: &Universe, line: Line<'_>)
         requires runs { AreRuns index.now (line_of line) self.old }
         requires told { KeepGrantVerbs index.now universe.now self.old }
@@ -170,8 +173,8 @@ impl Runs {
         }
     }
 
-    // A place up to which no verb is lacking, given one. No other is looked for at the first grants: the
-    // walk goes on, since it is kept which verbs each of them has.
+    // A place before which no verb is lacking, given that none is before `had`. Among the first
+    // `MOST_GRANTS` grants it stays `had`: the walk goes on there, to fill in the verbs of each.
     fn past_had(&self, nth: usize, had: usize, all: usize) -> usize
         requires { had ≤ all }
         ensures within { result ≤ all }
@@ -184,7 +187,7 @@ impl Runs {
         self.verbs.past_had(had, all)
     }
 
-    // Fills in which verbs this grant has, the nth of these.
+    // Adds the verbs of this grant, which is the `nth` of the line's grants, counted from 0.
     fn add_grant(&mut self, index: &Index<'_>, universe: &Universe, nth: usize, no: u32)
         requires within { no < length index.now.grants }
         requires told { KeepGrantVerbs index.now universe.now self.old }
@@ -206,14 +209,14 @@ impl Runs {
         self.verbs.add_rule(index.grant(no).rule, verbs);
     }
 
-    // Keeps the runs for this namespace alone.
+    // Marks the runs as those of one namespace, so that they serve no other.
     pub(crate) fn keep_here(&mut self)
         ensures { self.new ≡ record self.old { is_bare = false } }
     {
         self.is_bare = false;
     }
 
-    // Whether these runs, of somebody in one namespace, are known to be those in this one too.
+    // Whether these runs of a principal are known to be the same in this namespace.
     pub(crate) fn serve(&self, index: &Index<'_>, namespace: &Word) -> bool
         ensures { IsTrue result
             → IsTrue self.now.is_bare × (¬ HasRoleBindings index.now.held namespace.now) }
@@ -221,14 +224,14 @@ impl Runs {
         self.is_bare && !index.subjects().has_role_bindings(namespace)
     }
 
-    // Whether it is known that none of these grants has the verb at this place.
+    // Whether it is known that none of the line's grants has the verb at this place.
     pub(crate) fn lack_verb(&self, place: usize) -> bool
         ensures { IsTrue result ↔ LacksPlace self.now.verbs.words.items place }
     {
         self.verbs.lack(place)
     }
 
-    // The place of the next verb, from this place on, of which that isn't known.
+    // The first place, from this one on, for which `lack_verb` is false.
     pub(crate) fn next_verb(&self, from: usize) -> usize
         ensures on { from ≤ result }
         ensures none { (place : ℕ) → from ≤ place → place < result
@@ -245,28 +248,28 @@ impl Runs {
         self.kept.as_slice()
     }
 
-    // What is kept of the verbs of the first of these grants.
+    // The verbs of each of the line's first grants.
     pub(crate) fn grants(&self) -> &[GrantVerbs]
         ensures { result.now ≡ self.now.grants.items }
     {
         self.grants.as_slice()
     }
 
-    // Whether one of the runs that are kept has grants from this number on.
+    // Whether one of the kept runs has a grant from this number on.
     pub(crate) fn have_from(&self, first: u32) -> bool
         ensures { IsTrue result ↔ Any (λ run. first < run.end) self.now.kept.items }
     {
         self.kept.as_slice().iter().any(|run| first < run.end)
     }
 
-    // Whether these are all the runs.
+    // Whether it is known that all runs are kept.
     pub(crate) fn are_all(&self) -> bool
         ensures { result ≡ self.now.are_all }
     {
         self.are_all
     }
 
-    // Whether there are others, and none at this place is kept.
+    // Whether no run is kept at this place, but there may be one.
     pub(crate) fn are_unknown_at(&self, place: usize) -> bool
         ensures { IsTrue result
             ↔ ((length self.now.kept.items ≤ place) × (self.now.are_all ≡ false)) }
@@ -274,7 +277,7 @@ impl Runs {
         self.kept.len() <= place && !self.are_all
     }
 
-    // Whether there are no runs at all.
+    // Whether the line has no runs.
     pub(crate) fn is_empty(&self) -> bool
         ensures { IsTrue result ↔ ((self.now.kept.items ≡ []) × IsTrue self.now.are_all) }
     {
@@ -282,7 +285,7 @@ impl Runs {
     }
 }
 
-// Puts what is told of a grant at this place, or after the others if there is room.
+// Puts a grant's verbs at this place, or after all others if the list is shorter and has room.
 fn keep_at(kept: &mut ArrayVec<GrantVerbs, MOST_GRANTS>, nth: usize, told: GrantVerbs)
     ensures { (p : PolicyView) (u : UniverseView) → AreVerbsOfGrants p u kept.old.items
         → AreVerbsOfGrant p u told → AreVerbsOfGrants p u kept.new.items }

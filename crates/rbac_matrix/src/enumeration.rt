@@ -26,31 +26,33 @@ use rbac_index::Index;
 use rbac_reaches::{Meter, Reach};
 use rbac_universe::Universe;
 
-/// The rows of a matrix from some key on, in order of keys. Holds what it borrows and a few
-/// numbers: the rows that are left aren't stored anywhere.
+/// The rows of a matrix, all of them or those after a key, in order of keys. Has a fixed size, some
+/// 20 KB: what it borrows, and what is kept of one line. The rows that are left aren't stored
+/// anywhere.
 #[derive(Drop)]
 pub struct Rows<'r, 'm> {
     pub(crate) index: &'m Index<'m>,
     pub(crate) universe: &'m Universe,
     pub(crate) reaches: &'m [Reach],
     pub(crate) seats: &'r mut [Seat],
-    // The line of the seats, and the place of the target from which that line's rows are left.
+    // The line whose cursors are seated, and the place of the target from which its rows are left.
     pub(crate) at: Place,
     pub(crate) from: u32,
     // What is kept of that line.
     pub(crate) kept: Kept,
-    // How many grants ClusterRoleBindings bring.
+    // How many grants belong to ClusterRoleBindings.
     pub(crate) cluster_wide: u32,
-    // The last line on which a RoleBinding was found to have a cursor. It saves look-ups.
+    // The last line on which a RoleBinding was found to have a cursor. It isn't searched again.
     pub(crate) mixed: Option<Place>,
-    // The first line, how many of its cursors were sought, and how many rows were returned.
+    // The first line, for how many of its cursors the first entry was searched for, and how many
+    // rows were returned.
     pub(crate) start: Place,
     pub(crate) sought: usize,
     pub(crate) returned: u128,
     pub(crate) meter: Meter,
 }
 
-// The rows from a start on, over borrowed seats.
+// The rows from this start on, with these seats, which may hold anything.
 pub(crate) fn rows_from<'r, 'm>(
     index: &'m Index<'m>,
     universe: &'m Universe,
@@ -96,7 +98,7 @@ pub(crate) fn rows_from<'r, 'm>(
 }
 
 impl Rows<'_, '_> {
-    // Moves the seats of the grants below `upto` past the place from which rows are left.
+    // Moves the seats of the grants below `upto` past the target from which rows are left.
     pub(crate) fn pass(&mut self, upto: u32)
         requires going { (low : ℕ) × (low ≤ upto) × IsUnderWay self.old low }
         requires few { self.old.from ≤ most_targets }
@@ -119,9 +121,10 @@ impl Rows<'_, '_> {
         advance(basis, line, kept, from, upto, self.seats, meter);
     }
 
-    /// How many entries of reaches were read: no fewer than the rows that were returned, and no
-    /// more than the entries of the lines that were entered, plus 20 for each cursor that was
-    /// sought on the first line. Doesn't allocate.
+    /// How many entries of reaches were read: at least as many as rows were returned, and at most
+    /// one for each touch on the lines that were entered, plus 20 for each cursor whose first entry
+    /// was searched for on the first line (own). A touch is a cursor with a target that its rule
+    /// matches. Doesn't allocate.
     pub fn meter(&self) -> &Meter
         requires { IsGoing self.now }
         ensures meter { result.now ≡ self.now.meter }

@@ -1,4 +1,5 @@
-//! Passing rows of every granting binding that repeat what is allowed in the whole cluster.
+//! Passes repeats among the rows of every granting binding: rows of a namespace by a
+//! ClusterRoleBinding, which allows the same in the whole cluster.
 
 ghost use Rattle.std.specs.Prelude.{◌≡◌, ◌<◌, ◌≤◌, ◌∷◌, ◌+◌, List, IfSome, IsTrue, MatchOption};
 ghost use Rattle.std.specs.Prelude.{false, length};
@@ -13,7 +14,7 @@ ghost use Rattle.rbac_matrix.specs.Passing.{EndsAll, FindsCell};
 use crate::every_rows::{EveryRows, after_binding};
 use rbac_index::Index;
 
-// The place of a grant's binding, and where the grants of that binding begin.
+// The place of the grant's binding, and where the grants of this binding begin.
 fn at_binding(index: &Index<'_>, no: u32) -> (usize, u32)
     requires { no < length index.now.grants }
     ensures { BeginsBinding index.now no result.0 result.1 }
@@ -24,7 +25,8 @@ fn at_binding(index: &Index<'_>, no: u32) -> (usize, u32)
 }
 
 impl EveryRows<'_, '_> {
-    // Comes to the next row and doesn't pass it: the grant that allows it.
+    // Comes to the next row without passing it. Returns the first grant of the row's binding that
+    // allows it; `None` if no row is left.
     fn come(&mut self) -> Option<u32>
         requires { IsGoingEvery self.old }
         ensures found { MatchOption result
@@ -47,8 +49,8 @@ impl EveryRows<'_, '_> {
         Some(no)
     }
 
-    /// Passes rows that are repeats, up to the next row that is none; all rows, if there is none.
-    /// Doesn't allocate.
+    /// Passes the rows before the next row that isn't a repeat, or all rows if each is a repeat
+    /// (own). Doesn't allocate.
     pub fn pass_repeats(&mut self)
         requires { IsGoingEvery self.old }
         ensures passes { PassesRepeats (AreEveryLeft self.old) (AreEveryLeft self.new) }
@@ -60,7 +62,7 @@ impl EveryRows<'_, '_> {
         while self.pass_repeat() {}
     }
 
-    // Passes the next row if it is a repeat, and answers whether it is.
+    // Passes the next row if it is a repeat. Returns whether it is.
     fn pass_repeat(&mut self) -> bool
         requires { IsGoingEvery self.old }
         ensures some { PassesSome (AreEveryLeft self.old) (AreEveryLeft self.new) }
@@ -85,8 +87,8 @@ impl EveryRows<'_, '_> {
         true
     }
 
-    // Leaves the line, whose rows are repeats, and passes lines after it of which the index says
-    // the same.
+    // Leaves the line, whose rows are all repeats, and passes the lines after it that the index
+    // shows to have only repeats.
     fn pass_lines(&mut self)
         requires going { IsGoingEvery self.old }
         requires repeated { (l : LineView) × (ls : List LineView)
@@ -104,8 +106,8 @@ impl EveryRows<'_, '_> {
         self.upto = 0;
     }
 
-    // Passes the binding of this grant at the place from which rows are left, on a line where a
-    // RoleBinding has a cursor.
+    // Passes the row of this grant's binding for the current target. Remembers the line as one
+    // where a RoleBinding has a cursor.
     fn pass_binding(&mut self, no: u32)
         requires going { IsGoingEvery self.old }
         requires few { self.old.rows.from < most_targets }

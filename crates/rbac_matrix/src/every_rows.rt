@@ -19,20 +19,20 @@ use crate::steps::next_cell;
 use rbac_index::Index;
 use rbac_reaches::Meter;
 
-/// The rows of every granting binding from some mark on, in order of keys, then of bindings: one
-/// for each binding that grants a request. Holds what it borrows and a few numbers: the rows that
-/// are left aren't stored anywhere.
+/// The rows of every granting binding, all of them or those after a mark, in order of keys, then of
+/// bindings: one row for each binding that grants a request. Has a fixed size, some 20 KB: what it
+/// borrows, and what is kept of one line. The rows that are left aren't stored anywhere.
 #[derive(Drop)]
 pub struct EveryRows<'r, 'm> {
-    // The line and its seats, and the place of the request from which rows are left.
+    // The line, its seats, and the place of the target from which rows are left.
     pub(crate) rows: Rows<'r, 'm>,
-    // The place of the binding from which that request's rows are left, and where the grants of the
-    // bindings before it end.
+    // The place of the binding from which rows of that target's request are left, and where the
+    // grants of the bindings before it end.
     pub(crate) binding: usize,
     pub(crate) upto: u32,
 }
 
-// The place after that of a grant's binding, and where the grants of that binding end.
+// The place after that of the grant's binding, and where the grants of this binding end.
 pub(crate) fn after_binding(index: &Index<'_>, no: u32) -> (usize, u32)
     requires { no < length index.now.grants }
     ensures { PassesBinding index.now no result.0 result.1 }
@@ -45,9 +45,10 @@ pub(crate) fn after_binding(index: &Index<'_>, no: u32) -> (usize, u32)
 }
 
 impl EveryRows<'_, '_> {
-    /// How many entries of reaches were read: no fewer than the rows that were returned, and no
-    /// more than the entries of the lines that were entered, plus 20 for each cursor that was
-    /// sought on the first line. Doesn't allocate.
+    /// How many entries of reaches were read: at least as many as rows were returned, and at most
+    /// one for each touch on the lines that were entered, plus 20 for each cursor whose first entry
+    /// was searched for on the first line (own). A touch is a cursor with a target that its rule
+    /// matches. Doesn't allocate.
     pub fn meter(&self) -> &Meter
         requires { IsGoingEvery self.now }
         ensures meter { result.now ≡ self.now.rows.meter }

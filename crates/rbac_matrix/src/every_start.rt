@@ -21,8 +21,8 @@ use rbac_token::{BindingName, Mark};
 use rbac_universe::Universe;
 use std::cmp::Ordering;
 
-/// The start of a request, the place of the binding from which that request's rows are included,
-/// and where the grants of the bindings before that one end.
+/// The start at a request's line and target, the place of the binding from which that request's
+/// rows are included, and where the grants of the bindings before this one end.
 #[derive(Clone, Copy)]
 pub(crate) struct EveryStart {
     pub(crate) request: Start,
@@ -30,7 +30,7 @@ pub(crate) struct EveryStart {
     pub(crate) upto: u32,
 }
 
-// How the binding compares to the name.
+// How the binding compares to this name: ClusterRoleBindings come first.
 fn cmp_binding(binding: &Binding, name: &BindingName) -> Ordering
     ensures { result ≡ slice_cmp text_cmp (binding_name binding.now) (name_texts (Some name.now)) }
 {
@@ -42,7 +42,7 @@ fn cmp_binding(binding: &Binding, name: &BindingName) -> Ordering
     }
 }
 
-// The place of the first binding after the name.
+// The place of the first binding that comes after this name; past all bindings if there is none.
 fn place_past(bindings: &[Binding], name: &BindingName) -> usize
     requires { IsAscendingBy binding_name bindings.now }
     ensures { ArePastName bindings.now name.now result }
@@ -64,7 +64,7 @@ fn grants_before(index: &Index<'_>, place: usize) -> u32
     end
 }
 
-// Where the key's request is, if it is one of the universe.
+// The start at the key's own line and target; `None` if no request of the universe has this key.
 fn own_request(universe: &Universe, key: &Key) -> Option<Start>
     ensures found { MatchOption result (HasNoRequest universe.now key.now)
         (λ own. IsOwnRequest universe.now key.now own.at own.from) }
@@ -84,7 +84,7 @@ fn own_request(universe: &Universe, key: &Key) -> Option<Start>
     })
 }
 
-// Where the rows after this key begin, with all bindings of each request.
+// Where the rows after this key begin, each request with all its bindings.
 fn whole_start(universe: &Universe, key: Option<&Key>) -> EveryStart
     ensures settled { IsSettled universe.now result.request.at }
     ensures start { IsStart universe.now

@@ -6,7 +6,7 @@ use rbac_terms::ModelFault;
 use std::error::Error;
 use std::fmt;
 
-/// Why the key of a row can't be made: Y1 NoMemory if it runs out of memory.
+/// Why the key of a row can't be made (own). It is printed as `out of memory`, without a number.
 #[derive(Debug, Drop, Clone, Copy, PartialEq, Eq)]
 pub enum MatrixFault {
     /// Y1: out of memory.

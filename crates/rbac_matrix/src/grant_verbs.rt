@@ -1,5 +1,5 @@
-//! Which verbs the rule of a grant has, kept from one line to the next: the grants of
-//! ClusterRoleBindings are the same in each namespace.
+//! Which verbs the rules of grants have. They are kept from one line to the next, because the
+//! grants of ClusterRoleBindings are the same in each namespace.
 
 ghost use Rattle.std.specs.Prelude.{◌≡◌, ◌<◌, ◌↔◌, IsTrue, length};
 ghost use Rattle.rbac_matrix.specs.Shown.{HasItsVerb};
@@ -11,10 +11,11 @@ use rbac_index::Index;
 use rbac_terms::{Rule, Word, verb_matches};
 use rbac_universe::Universe;
 
-// Of how many verbs of a universe it is kept whether a grant's rule has them.
+// For how many of a universe's first verbs there is a bit.
 pub(crate) const MOST_VERBS: usize = 64;
 
-/// Which of the first verbs of a universe the rule of a grant has: those whose bit is 1.
+/// Which of a universe's first verbs the rule of a grant has: those whose bit is 1. The grant has
+/// the number `no`.
 #[derive(Clone, Copy, Default)]
 pub(crate) struct GrantVerbs {
     no: u32,
@@ -22,7 +23,7 @@ pub(crate) struct GrantVerbs {
 }
 
 impl GrantVerbs {
-    // The verbs of this grant; they are taken over if they are known at this place of the list.
+    // The verbs of this grant. They are copied from `known` if the grant is at place `nth` there.
     pub(crate) fn of(
         index: &Index<'_>,
         universe: &Universe,
@@ -46,7 +47,7 @@ impl GrantVerbs {
         }
     }
 
-    // The bits of the verbs.
+    // The bits of the verbs, the first verb's the lowest.
     pub(crate) fn bits(self) -> u64
         ensures { result ≡ self.bits }
     {
@@ -62,7 +63,7 @@ impl GrantVerbs {
     }
 }
 
-// Of the first verbs, those that the rule has, as bits.
+// A bit for each of the first verbs: 1 if the rule has the verb.
 fn bits_of(rule: &Rule, verbs: &[Word]) -> u64
     ensures { AreBits rule.now verbs.now result }
 {
@@ -76,8 +77,8 @@ fn bits_of(rule: &Rule, verbs: &[Word]) -> u64
     bits
 }
 
-// Whether the rule of the grant has the line's verb: as it is kept, if it is kept at this place of
-// the list.
+// Whether the grant's rule has the line's verb. If the grant is at place `nth` of `kept` and the
+// verb has a bit there, the bit decides; otherwise the rule is asked.
 pub(crate) fn has_verb(
     index: &Index<'_>,
     universe: &Universe,

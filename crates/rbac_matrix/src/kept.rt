@@ -1,4 +1,4 @@
-//! What is kept of a line.
+//! What an enumeration keeps of its line.
 
 use crate::blocks::Blocks;
 use crate::bound_runs::Runs;
@@ -11,7 +11,7 @@ pub(crate) struct Kept {
 }
 
 impl Kept {
-    // Nothing, for when there is no line.
+    // Keeps nothing, for when there is no line.
     pub(crate) fn new() -> Self {
         Kept {
             runs: Runs::new(),

@@ -1,5 +1,5 @@
-//! The matrix: everything that anyone may do, in order of keys, each request with the first binding
-//! that grants it.
+//! The matrix: every request that is allowed, in order of keys, with the first binding that grants
+//! it, or with each binding that does.
 #![tactic(auto)]
 
 mod advance;

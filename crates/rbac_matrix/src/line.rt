@@ -1,4 +1,4 @@
-//! The lines of a universe: who, namespace and verb.
+//! The lines of a universe. A line is a principal, a namespace and a verb.
 
 ghost use Rattle.std.specs.Prelude.{◌≡◌, ◌∷◌, [], ◌<◌, ◌≤◌, ◌+◌, ◌⊎◌, length, IfSome};
 ghost use Rattle.std.specs.Prelude.{MatchOption};
@@ -39,7 +39,7 @@ impl Place {
     }
 }
 
-/// Who asks, in which namespace, and for which verb, which is the one at a place of the universe.
+/// A line: a principal, a namespace and a verb, with the place of the verb in the universe.
 #[derive(Clone, Copy)]
 pub(crate) struct Line<'a> {
     pub(crate) principal: &'a Principal,
@@ -70,7 +70,7 @@ pub(crate) fn line_at<'a>(universe: &'a Universe, at: Place) -> Option<Line<'a>>
     })
 }
 
-// The place after that of a line.
+// The place after that of this line: the next verb's, or one past the last verb.
 pub(crate) fn after(at: Place) -> Place
     requires { at.verb < most_words }
     ensures { result ≡ next_verb at }
@@ -82,7 +82,7 @@ pub(crate) fn after(at: Place) -> Place
     }
 }
 
-// The place, or the first place in the next namespace if it is past the last verb.
+// The place, or, if it is past the last verb, the first place of the next namespace.
 fn after_verbs(universe: &Universe, at: Place) -> Place
     ensures same { lines_from universe.now result ≡ lines_from universe.now at }
     ensures moved { (result ≡ at) ⊎ ((result.verb ≡ 0) × (result.principal ≡ at.principal)
@@ -98,7 +98,7 @@ fn after_verbs(universe: &Universe, at: Place) -> Place
     at
 }
 
-// The place, or the next principal's first place if it is past the last namespace.
+// The place, or, if it is past the last namespace, the first place of the next principal.
 fn after_namespaces(universe: &Universe, at: Place) -> Place
     requires { at.namespace < length universe.now.namespaces → at.verb < length universe.now.verbs }
     ensures same { lines_from universe.now result ≡ lines_from universe.now at }
@@ -114,7 +114,8 @@ fn after_namespaces(universe: &Universe, at: Place) -> Place
     at
 }
 
-// The place itself if it is that of a line, otherwise that of the next line.
+// The place itself if a line is there, otherwise the place of the next line; past all lines if
+// there is none.
 pub(crate) fn settled(universe: &Universe, at: Place) -> Place
     ensures settled { IsSettled universe.now result }
     ensures same { lines_from universe.now result ≡ lines_from universe.now at }

@@ -1,4 +1,4 @@
-//! A matrix over borrowed seats.
+//! A matrix that borrows seats.
 
 ghost use Rattle.std.specs.Prelude.{◌≡◌, List, length};
 ghost use Rattle.std.specs.Option.{option_copied};
@@ -22,7 +22,7 @@ use rbac_token::Mark;
 use rbac_universe::Universe;
 
 /// Everything that anyone may do: the requests of a universe that fit and are allowed. Borrows an
-/// index, a universe, a reach over that universe for each grant, and a seat for each grant.
+/// index, a universe, and for each grant a seat and the reach of its rule over this universe.
 #[derive(Drop)]
 pub struct Matrix<'m, 's> {
     index: &'m Index<'m>,
@@ -32,7 +32,7 @@ pub struct Matrix<'m, 's> {
 }
 
 impl<'m, 's> Matrix<'m, 's> {
-    /// The matrix over these four. Doesn't allocate.
+    /// The matrix that borrows these four. Doesn't allocate.
     pub fn build(
         index: &'m Index<'m>,
         universe: &'m Universe,
@@ -53,9 +53,10 @@ impl<'m, 's> Matrix<'m, 's> {
         }
     }
 
-    /// The rows whose key is greater than this one, which may be of the universe or not; without a
-    /// key, all rows. Rows come in order of keys, each once. Doesn't allocate. For other rows take
-    /// the matrix back from these: no clause says what it is once they are dropped.
+    /// The rows whose key is greater than this one, which needn't be the key of a request of the
+    /// universe; without a key, all rows. Rows are in order of keys, each once (own). Doesn't
+    /// allocate. To list other rows afterwards, call [`Rows::into_matrix`]: if the rows are
+    /// dropped, no contract states what the matrix is.
     pub fn rows_after(&mut self, key: Option<&Key>) -> Rows<'_, 'm>
         requires { AreLent self.old }
         ensures going { IsGoing result }
@@ -75,9 +76,10 @@ impl<'m, 's> Matrix<'m, 's> {
         rows_from(index, universe, reaches, start, seats)
     }
 
-    /// The rows of every granting binding that come after this mark, whose request and binding may
-    /// exist or not; without a mark, all of them. Rows come in order of keys, then of bindings,
-    /// each once. Doesn't allocate. For other rows take the matrix back, as from `rows_after`.
+    /// The rows of every granting binding that come after this mark; without a mark, all of them.
+    /// The mark's request and binding needn't exist. Rows are in order of keys, then of bindings,
+    /// each once (own). Doesn't allocate. To list other rows afterwards, call
+    /// [`EveryRows::into_matrix`].
     pub fn every_after(&mut self, mark: Option<&Mark>) -> EveryRows<'_, 'm>
         requires { AreLent self.old }
         ensures going { IsGoingEvery result }
@@ -105,7 +107,7 @@ impl<'m, 's> Matrix<'m, 's> {
 }
 
 impl<'r, 'm> Rows<'r, 'm> {
-    /// Ends the enumeration, and gives the matrix back, for other rows. Doesn't allocate.
+    /// Ends the enumeration, and gives the matrix back to list other rows. Doesn't allocate.
     pub fn into_matrix(self) -> Matrix<'m, 'r>
         requires { IsGoing self }
         ensures lent { AreLent result }
@@ -117,7 +119,7 @@ impl<'r, 'm> Rows<'r, 'm> {
 }
 
 impl<'r, 'm> EveryRows<'r, 'm> {
-    /// Ends the enumeration, and gives the matrix back, for other rows. Doesn't allocate.
+    /// Ends the enumeration, and gives the matrix back to list other rows. Doesn't allocate.
     pub fn into_matrix(self) -> Matrix<'m, 'r>
         requires { IsGoingEvery self }
         ensures lent { AreLent result }

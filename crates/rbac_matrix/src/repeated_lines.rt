@@ -1,4 +1,4 @@
-//! Lines of a namespace on which no RoleBinding has a cursor: each of their rows is a repeat.
+//! Lines that have a namespace, and no cursor of a RoleBinding: each of their rows is a repeat.
 
 ghost use Rattle.std.specs.Prelude.{◌≡◌, ◌<◌, ◌≤◌, ◌⊎◌, ◌↔◌, ℕ, IsTrue, MatchOption, Some};
 ghost use Rattle.std.specs.Prelude.{false, option_copied};
@@ -16,7 +16,7 @@ use rbac_index::Index;
 use rbac_terms::{Word, verb_matches};
 use rbac_universe::Universe;
 
-// How many grants ClusterRoleBindings bring; they come first.
+// How many grants belong to ClusterRoleBindings. These grants come first.
 pub(crate) fn cluster_grants(index: &Index<'_>) -> u32
     ensures { AreClusterWide index.now result }
 {
@@ -48,9 +48,10 @@ pub(crate) fn has_cursor_from(index: &Index<'_>, line: Line<'_>, runs: &Runs, fi
     false
 }
 
-// The place of a line from which on rows are to be sought after a line that has a namespace is
-// left: the next line, if it is in a namespace where a RoleBinding names who asks, as in that of the
-// line that is left. So nothing is looked up within a namespace.
+// The place from which rows are searched for after a line that has a namespace is left. `named` is
+// whether a RoleBinding names the principal in that namespace. If so, this is the next line there,
+// so nothing is looked up within a namespace. Otherwise, and after the last line of the namespace,
+// the lines of namespaces where no RoleBinding names their principal are passed.
 pub(crate) fn after_repeats(index: &Index<'_>, universe: &Universe, at: Place, named: bool) -> Place
     requires few { at.verb < most_words }
     ensures passes { PassesRepeated index.now universe.now (next_verb at) result }
@@ -63,8 +64,8 @@ pub(crate) fn after_repeats(index: &Index<'_>, universe: &Universe, at: Place, n
     past_repeated(index, universe, next)
 }
 
-// The place of the first line, from this one on, that is in the empty namespace, or in a namespace
-// where a RoleBinding names who asks; past all lines, if there is none.
+// The place of the first line, from this place on, whose namespace is empty, or is one where a
+// RoleBinding names the line's principal; past all lines if there is none.
 pub(crate) fn past_repeated(index: &Index<'_>, universe: &Universe, at: Place) -> Place
     ensures settled { IsSettled universe.now result }
     ensures passes { PassesRepeated index.now universe.now at result }
@@ -90,7 +91,7 @@ pub(crate) fn past_repeated(index: &Index<'_>, universe: &Universe, at: Place) -
     at
 }
 
-// Whether a namespace is that where somebody is named, if there are both.
+// Whether both namespaces are given and are the same.
 fn is_named(here: Option<&Word>, named: Option<&Word>) -> bool
     ensures { MatchOption (option_copied named.entry) (result ≡ false)
         (λ text. IsTrue result ↔ (option_copied here.entry ≡ Some text)) }

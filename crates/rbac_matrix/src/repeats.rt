@@ -1,4 +1,5 @@
-//! Passing rows that repeat in a namespace what is allowed in the whole cluster.
+//! Passes repeats: rows of a namespace by a ClusterRoleBinding, which allows the same in the whole
+//! cluster.
 
 ghost use Rattle.std.specs.Prelude.{◌≡◌, ◌≢◌, ◌<◌, ◌≤◌, ◌∷◌, [], ℕ, List, IsTrue, MatchOption};
 ghost use Rattle.std.specs.Prelude.{Some, false, length, slice_get};
@@ -22,8 +23,9 @@ use crate::seats::empty_line;
 use crate::steps::{next_cell, next_line};
 
 impl Rows<'_, '_> {
-    // Comes to the next row, past the place for the grants below `upto`, and doesn't pass it: the
-    // place of its target, and the first grant that allows it.
+    // Comes to the next row without passing it. Returns the place of its target, and the first
+    // grant that allows it; `None` if no row is left. Looks from the current line and target on,
+    // but for grants below `upto` only from the next target on.
     pub(crate) fn come(&mut self, upto: u32) -> Option<(u32, u32)>
         requires way { IsUnderWay self.old upto }
         ensures found { MatchOption result
@@ -61,8 +63,8 @@ impl Rows<'_, '_> {
         Some((place, no))
     }
 
-    /// Passes rows that are repeats, up to the next row that is none; all rows, if there is none.
-    /// Doesn't allocate.
+    /// Passes the rows before the next row that isn't a repeat, or all rows if each is a repeat
+    /// (own). Doesn't allocate.
     pub fn pass_repeats(&mut self)
         requires { IsGoing self.old }
         ensures passes { PassesRepeats (AreLeft self.old) (AreLeft self.new) }
@@ -77,7 +79,8 @@ impl Rows<'_, '_> {
         }
     }
 
-    // Passes the repeats that stand before the next entry of a RoleBinding, on whichever line.
+    // Passes repeats by `pass_ahead`, line after line. Stops where the next row may be by a
+    // RoleBinding, and on a line of the empty namespace, which has no repeats.
     fn pass_rest(&mut self)
         requires { IsGoing self.old }
         ensures same { GoesOn self.old self.new }
@@ -89,10 +92,10 @@ impl Rows<'_, '_> {
         while self.pass_ahead() {}
     }
 
-    // Passes the repeats on the line before the next entry of a RoleBinding, and that entry if its
-    // request doesn't fit. Leaves the line if there is no such entry: so the lines after it that have
-    // only repeats are passed by the index alone, without a seat on any of them. Answers whether it
-    // did one or the other.
+    // Passes the repeats before `repeats_end` on a line that has a namespace. If only repeats are
+    // left of the line, leaves the line: so the lines after it that have only repeats are passed by
+    // the index alone, without a seat on any of them. Returns whether it passed anything or left
+    // the line.
     #[tactic(auto, using(crate::proofs::OnceLemmas::some_none, crate::proofs::OnceLemmas::goes_none))]
     fn pass_ahead(&mut self) -> bool
         requires { IsGoing self.old }
@@ -121,7 +124,7 @@ impl Rows<'_, '_> {
         true
     }
 
-    // Passes the next row if it is a repeat, and answers whether it is.
+    // Passes the next row if it is a repeat. Returns whether it is.
     fn pass_repeat(&mut self) -> bool
         requires { IsGoing self.old }
         ensures some { PassesSome (AreLeft self.old) (AreLeft self.new) }
@@ -158,7 +161,7 @@ impl Rows<'_, '_> {
         is_repeat_in(line.namespace, self.index.grant(no).binding)
     }
 
-    // Whether the line has a namespace, and no RoleBinding has a cursor on it. Then its rows are
+    // Whether the line has a namespace and no RoleBinding has a cursor on it, so that its rows are
     // repeats.
     pub(crate) fn is_repeated(&self) -> bool
         requires { (low : ℕ) × IsUnderWay self.now low }
@@ -175,8 +178,8 @@ impl Rows<'_, '_> {
         !line.namespace.is_empty() && !has_cursor_from(self.index, line, runs, self.cluster_wide)
     }
 
-    // Leaves the line, of which only repeats are left, and passes lines after it that have only
-    // repeats, as the index says.
+    // Leaves the line, of which only repeats are left. Passes the lines after it that the index
+    // shows to have only repeats, and seats the cursors of the next line.
     pub(crate) fn pass_lines(&mut self)
         requires way { (low : ℕ) × IsUnderWay self.old low }
         requires rest { HasRest self.old }
@@ -206,8 +209,8 @@ impl Rows<'_, '_> {
         self.from = 0;
     }
 
-    // A place up to which the rows that are left of the line, if it has a namespace, are repeats:
-    // before it no RoleBinding has an entry whose request fits.
+    // A place before which the line has only repeats left, if it has a namespace: before this place
+    // no RoleBinding has an entry whose request fits.
     fn repeats_end(&self) -> u32
         requires { IsGoing self.now }
         ensures within { result ≤ length self.now.universe.now.targets }
@@ -226,7 +229,7 @@ impl Rows<'_, '_> {
         place + 1
     }
 
-    // Passes the targets before this place, on a line where a RoleBinding has a cursor.
+    // Passes the rows of the line for targets before this place.
     fn pass_to(&mut self, place: u32)
         requires going { IsGoing self.old }
         requires on { self.old.from ≤ place }

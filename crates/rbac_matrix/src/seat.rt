@@ -1,4 +1,4 @@
-//! Seats: where a grant is in its reach.
+//! Seats: where cursors are in their reaches.
 
 ghost use Rattle.std.specs.Prelude.{◌≡◌, ◌+◌, ◌<◌, ◌≤◌, ◌↔◌, ℕ, IsTrue, length};
 ghost use Rattle.std.specs.List.{slice_index_or};
@@ -10,8 +10,8 @@ ghost use Rattle.rbac_model.specs.Universes.{most_targets};
 
 use rbac_reaches::{Meter, Reach};
 
-/// The seat of a grant: its position in its reach, and the place that was read there. A seat
-/// belongs to an enumeration, which determines what it holds.
+/// The seat of a grant: a position in the grant's reach, and the place that was read there. What a
+/// seat holds is up to the enumeration that borrows it.
 #[derive(Clone, Copy)]
 pub struct Seat {
     position: u32,
@@ -29,14 +29,14 @@ impl Seat {
         }
     }
 
-    // Whether nothing was seated here, or a grant whose reach is empty.
+    // Whether the seat is empty: no grant was seated here, or a grant whose reach is empty.
     pub(crate) fn is_empty(self) -> bool
         ensures { IsTrue result ↔ (self ≡ empty_seat) }
     {
         self.position == 0 && self.place == u32::MAX
     }
 
-    // The place of the entry that the seat is at; the greatest number if there is none.
+    // The place of the entry that the seat is at; the greatest number if the seat is at none.
     pub(crate) fn place(self) -> u32
         ensures { result ≡ self.place }
     {
@@ -44,7 +44,7 @@ impl Seat {
     }
 }
 
-// The seat at this position; reads the entry there, if there is one.
+// The seat at this position. Reads the entry there, if there is one.
 fn seat_in(reach: &Reach, position: usize, meter: &mut Meter) -> Seat
     requires { position ≤ length reach.now }
     ensures position { result.position ≡ position }
@@ -66,7 +66,8 @@ fn seat_in(reach: &Reach, position: usize, meter: &mut Meter) -> Seat
     }
 }
 
-// The position of the first entry that is at least `from`, found by at most 20 reads.
+// The position of the first entry that is at least `from`; if there is none, the number of entries.
+// Reads at most 20 entries.
 fn seek(reach: &Reach, from: u32, meter: &mut Meter) -> usize
     ensures first { IsFirstFrom reach.now from result }
     ensures reads { ReadsAtMost 20 meter.old meter.new }
@@ -85,7 +86,7 @@ fn seek(reach: &Reach, from: u32, meter: &mut Meter) -> usize
     low
 }
 
-// The seat at the first entry that is at least `from`.
+// The seat at the first entry that is at least `from`, or past the last entry.
 pub(crate) fn seat_from(reach: &Reach, from: u32, meter: &mut Meter) -> Seat
     requires real { (i : ℕ) → i < length reach.now → slice_index_or reach.now i 0 < past_all }
     requires from { from ≤ past_all }
@@ -100,7 +101,7 @@ pub(crate) fn seat_from(reach: &Reach, from: u32, meter: &mut Meter) -> Seat
     seat_in(reach, position, meter)
 }
 
-// The seat at the entry after the one that this seat is at.
+// The seat at the next entry, or past the last entry.
 pub(crate) fn seat_after(reach: &Reach, seat: Seat, meter: &mut Meter) -> Seat
     requires seated { IsSeated reach.now seat.place seat }
     requires stands { seat.place < past_all }
@@ -111,8 +112,8 @@ pub(crate) fn seat_after(reach: &Reach, seat: Seat, meter: &mut Meter) -> Seat
     seat_in(reach, seat.position as usize + 1, meter)
 }
 
-// The seat moved on to the first entry from the place on. A seat that is already there, or past it,
-// stays.
+// The seat, moved on to the first entry that is at least `place`. A seat that is already there or
+// further on stays.
 pub(crate) fn seat_at_least(reach: &Reach, seat: Seat, place: u32, meter: &mut Meter) -> Seat
     requires before { IsSeatedBefore reach.now place seat }
     requires real { (i : ℕ) → i < length reach.now → slice_index_or reach.now i 0 < past_all }

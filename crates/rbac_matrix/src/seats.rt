@@ -16,7 +16,7 @@ use crate::walk::{next_below, next_cursor, whole_walk};
 use rbac_index::Index;
 use rbac_reaches::{Meter, Reach};
 
-// Whether nothing was seated here and the reach has places.
+// Whether no grant was seated here, though the reach has entries.
 fn is_untaken(seat: Seat, reach: &Reach) -> bool
     ensures { IsTrue result ↔ ((seat ≡ empty_seat) × (0 < length reach.now)) }
 {
@@ -24,7 +24,7 @@ fn is_untaken(seat: Seat, reach: &Reach) -> bool
 }
 
 // Seats each cursor of the line at its first entry that is at least `from`. Returns how many
-// cursors have an entry, or had one.
+// cursors have a reach that isn't empty. Expects all seats to be empty.
 pub(crate) fn seat_line(
     basis: Basis<'_>,
     line: Line<'_>,
@@ -62,7 +62,7 @@ pub(crate) fn seat_line(
     filled
 }
 
-// Empties the seats of the line.
+// Empties the seats of the line's cursors. Expects all other seats to be empty.
 pub(crate) fn empty_line(index: &Index<'_>, line: Line<'_>, runs: &Runs, seats: &mut [Seat])
     requires runs { AreRuns index.now (line_of line) runs.now }
     requires count { length seats.old ≡ length index.now.grants }

@@ -30,14 +30,14 @@ use rbac_terms::{Key, Target, Word};
 use rbac_universe::Universe;
 use std::cmp::Ordering;
 
-/// The place of a line, and that of the target from which the line's rows are included.
+/// A start: the place of a line, and the place of the target from which its rows are included.
 #[derive(Clone, Copy)]
 pub(crate) struct Start {
     pub(crate) at: Place,
     pub(crate) from: u32,
 }
 
-// Where the key's principal is, or would go.
+// The place of the key's principal; as an error, the place where it would go.
 fn principal_place(universe: &Universe, key: &Key) -> Result<usize, usize>
     ensures found { IfOk result
         (IsFoundAt text_cmp who_key universe.now.principals key.now.principal) }
@@ -50,7 +50,7 @@ fn principal_place(universe: &Universe, key: &Key) -> Result<usize, usize>
     principals.binary_search_by(|principal| principal.key().cmp(wanted))
 }
 
-// Where the word is, or would go.
+// The place of the word; as an error, the place where it would go.
 pub(crate) fn word_place(words: &[Word], word: &Word) -> Result<usize, usize>
     requires { IsAscendingBy (λ w. w ∷ []) words.now }
     ensures found { IfOk result (IsFoundAt text_cmp (λ w. w) words.now word.now) }
@@ -59,7 +59,7 @@ pub(crate) fn word_place(words: &[Word], word: &Word) -> Result<usize, usize>
     words.binary_search_by(|held| held.cmp(word))
 }
 
-// How the target compares to the key's.
+// How the target compares to the target of the key.
 fn cmp_target(target: &Target, key: &Key) -> Ordering
     ensures { result ≡ slice_cmp text_cmp (what_texts target.now) (target_part key.now) }
 {
@@ -68,7 +68,7 @@ fn cmp_target(target: &Target, key: &Key) -> Ordering
     target.group().cmp(key.field(3)).then(by_text.then(by_name))
 }
 
-// Where the key's target is, or would go.
+// The place of the key's target; as an error, the place where it would go.
 pub(crate) fn target_place(universe: &Universe, key: &Key) -> Result<usize, usize>
     ensures found { IfOk result
         (IsFoundAt (slice_cmp text_cmp) what_texts (whats universe.now) (target_part key.now)) }
@@ -81,7 +81,7 @@ pub(crate) fn target_place(universe: &Universe, key: &Key) -> Result<usize, usiz
     targets.binary_search_by(|target| cmp_target(target, key))
 }
 
-// The place after the targets that don't come after the key's.
+// The place of the first target that comes after the key's target.
 fn place_after(universe: &Universe, key: &Key) -> usize
     ensures place { IsTargetPlace universe.now key.now result }
     ensures few { result ≤ most_targets }
@@ -92,7 +92,7 @@ fn place_after(universe: &Universe, key: &Key) -> usize
     }
 }
 
-// The place of the key's own line; if there is none, the place where the lines after it begin.
+// The place of the key's own line; as an error, the place where the lines after it begin.
 pub(crate) fn line_place(universe: &Universe, key: &Key) -> Result<Place, Place>
     ensures found { IfOk result (IsOwnPlace universe.now key.now) }
     ensures gap { IfErr result (λ at. IsStart universe.now (Some key.now) at 0) }
@@ -124,7 +124,7 @@ pub(crate) fn line_place(universe: &Universe, key: &Key) -> Result<Place, Place>
     })
 }
 
-// The start of the line at the place, or of the next line if there is none there.
+// The start of the line at the place, or of the next line if none is there.
 fn line_start(universe: &Universe, at: Place) -> Start
     ensures settled { IsSettled universe.now result.at }
     ensures same { lines_from universe.now result.at ≡ lines_from universe.now at }
@@ -165,8 +165,9 @@ pub(crate) fn start_after(universe: &Universe, key: Option<&Key>) -> Start
     }
 }
 
-// Seats the cursors of the line where the rows begin, if there is one. Returns how many were
-// sought. Expects all seats to be empty.
+// Seats the cursors of the line where the rows begin, if there is one. Returns for how many cursors
+// the first entry was searched for: 0 if the rows begin with the line's first target. Expects all
+// seats to be empty.
 pub(crate) fn seat_start(
     basis: Basis<'_>,
     start: Start,

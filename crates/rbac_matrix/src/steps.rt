@@ -1,4 +1,4 @@
-//! The rows of a line, by the seats of its cursors.
+//! The next row, and the line that it is on, found by the seats of cursors.
 
 ghost use Rattle.std.specs.Prelude.{ℕ, ◌≡◌, ◌<◌, ◌≤◌, ◌⊎◌, ◌↔◌, [], IsTrue, MatchOption, length};
 ghost use Rattle.rbac_model.specs.Policies.{IsPolicy};
@@ -29,16 +29,17 @@ use rbac_reaches::Meter;
 use rbac_terms::Word;
 use rbac_universe::Universe;
 
-// Whether a target is asked for in this namespace, given whether it is namespaced (own).
+// Whether a request in this namespace fits, given whether its target is namespaced (own).
 fn fits(namespace: &Word, namespaced: bool) -> bool
     ensures { IsTrue result ↔ (IsTrue namespaced ⊎ (namespace.now ≡ [])) }
 {
     namespaced || namespace.is_empty()
 }
 
-// The next row of a line, from a place on, or past it for the grants below `upto`: the place of its
-// target, and the first grant that allows it. Entries of requests that don't fit are read and
-// skipped; the seats that are at the row are left there.
+// The next row of the line: the place of its target, and the first grant that allows it; `None` if
+// the line has no more rows. Looks from the target `from` on, but for grants below `upto` only from
+// the next target on. Entries of requests that don't fit are read and skipped. The seats that are
+// at the row stay there.
 pub(crate) fn next_in_line(
     basis: Basis<'_>,
     line: Line<'_>,
@@ -80,8 +81,9 @@ pub(crate) fn next_in_line(
     None
 }
 
-// Makes the runs of the line before this one those of this line: they are, within a namespace, and
-// in all namespaces of a principal that have no RoleBinding.
+// Replaces the runs with those of this line, unless they are the same. The runs of the line before
+// are the same if both lines have the same principal, and either the same namespace or two
+// namespaces without a RoleBinding.
 fn renew(basis: Basis<'_>, line: Line<'_>, at: Place, runs: &mut Runs)
     requires verbs { 0 < at.verb
         → AreRunsOf basis.index.now basis.universe.now (line_of line) runs.old }
@@ -102,9 +104,9 @@ fn renew(basis: Basis<'_>, line: Line<'_>, at: Place, runs: &mut Runs)
     runs.fill(basis.index, basis.universe, line);
 }
 
-// Seats the cursors of the next line, from this place on, that has cursors with an entry, and
-// returns its place; if there is none, returns the place past all lines. Expects all seats to be
-// empty, and the runs to be known.
+// Seats the cursors of the next line, from this place on, where a cursor has an entry. Returns the
+// place of that line, or a place past all lines if there is none. Expects all seats to be empty,
+// and the runs to be those of the line before (`AreKnownAt`).
 pub(crate) fn next_line(
     basis: Basis<'_>,
     at: Place,
@@ -144,7 +146,8 @@ pub(crate) fn next_line(
     at
 }
 
-// The place after the verbs that none of these grants has.
+// The place of the next verb in the same namespace that one of the line's grants may have; if there
+// is none, the place past the last verb.
 fn past_verbs(universe: &Universe, runs: &Runs, at: Place) -> Place
     requires within { at.verb < length universe.now.verbs }
     ensures place { result ≡ place at.principal at.namespace result.verb }
@@ -161,8 +164,9 @@ fn past_verbs(universe: &Universe, runs: &Runs, at: Place) -> Place
     }
 }
 
-// The place after a principal's lines in a namespace where none of the principal's grants may be
-// live, and in those after it where that is so; after all the principal's lines if it has no grants.
+// Passes the line's namespace, where none of the principal's grants may be live, and the namespaces
+// after it where this holds too. Passes all namespaces of a principal without grants. Returns the
+// place after them.
 fn past_idle(index: &Index<'_>, universe: &Universe, line: Line<'_>, at: Place) -> Place
     requires policy { IsPolicy index.now }
     requires universe { IsUniverse universe.now }
@@ -183,9 +187,9 @@ fn past_idle(index: &Index<'_>, universe: &Universe, line: Line<'_>, at: Place) 
     past_unnamed(index, universe, next, line, named)
 }
 
-// The next row from a line's place and a target's place on, or past that target for the grants
-// below `upto`: the place of its line, and the place of its target with the first grant that allows
-// it.
+// The next row: the place of its line, and the place of its target with the first grant that allows
+// it. If no row is left, the place is past all lines. Looks from the line `at` and the target
+// `from` on, but for grants below `upto` only from the next target on.
 pub(crate) fn next_cell(
     basis: Basis<'_>,
     at: Place,

@@ -1,4 +1,4 @@
-//! Namespaces where no RoleBinding names who asks, which are passed at once.
+//! Passes namespaces where no RoleBinding names the principal.
 
 ghost use Rattle.std.specs.Prelude.{◌≡◌, ◌≢◌, ◌<◌, ◌⊎◌, IsTrue, Some, length, option_copied};
 ghost use Rattle.std.specs.declared.cmp.Ordering.TheVariants.{Less};
@@ -13,9 +13,10 @@ use rbac_index::Index;
 use rbac_terms::Word;
 use rbac_universe::Universe;
 
-// The place of the first of the principal's namespaces, from this place on, that doesn't come
-// before the one where a RoleBinding names the principal next; past all of them, if there is no such
-// binding. The line is of an earlier namespace, or of the one at the place.
+// The place of the first namespace, from this place on, that doesn't come before `named`; past all
+// namespaces if there is no `named`. `named` is the first namespace, from the line's own on, where
+// a RoleBinding names the principal. The line is in the namespace at the place, or in an earlier
+// one.
 pub(crate) fn past_unnamed(
     index: &Index<'_>,
     universe: &Universe,
@@ -45,7 +46,7 @@ pub(crate) fn past_unnamed(
     past
 }
 
-// Whether the namespace comes before the one that is given, if one is.
+// Whether the namespace comes before `named`; true if there is no `named`.
 fn is_before(namespace: &Word, named: Option<&Word>) -> bool
     ensures { IsTrue result → (found : Text) → option_copied named.entry ≡ Some found
         → text_cmp namespace.now found ≡ Less }

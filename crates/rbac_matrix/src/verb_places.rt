@@ -11,23 +11,23 @@ use crate::start::word_place;
 use arrayvec::ArrayVec;
 use rbac_terms::{Rule, Word};
 
-// How many places a word of a set has.
+// For how many places a word of bits has room.
 const PLACES: usize = 64;
 
-// The most words of a set: the verbs of a universe need no more.
+// The most words of bits in a set: enough for the most verbs that a universe can have.
 const MOST_WORDS: usize = 1024;
 
-// What matches every verb.
+// The word that matches every verb.
 const STAR: &[u8] = b"*";
 
-/// A set of places of verbs, with a bit for each place that it has room for.
+/// A set of places of verbs. It has one bit for each place that it has room for.
 #[derive(Drop)]
 pub(crate) struct VerbPlaces {
     words: ArrayVec<u64, MOST_WORDS>,
 }
 
 impl VerbPlaces {
-    // A set with room for no place.
+    // A set without room for any place.
     pub(crate) fn new() -> Self
         ensures { result.words.items ≡ [] }
     {
@@ -36,7 +36,8 @@ impl VerbPlaces {
         }
     }
 
-    // Takes all places out, and makes room for as many.
+    // Takes all places out, and makes room for the first `count` places, but for no more than
+    // `MOST_WORDS` words of bits.
     pub(crate) fn clear(&mut self, count: usize)
         ensures none { (place : ℕ) → ¬ HasPlace self.new.words.items place }
         ensures room { (count ≤ 64 * length self.new.words.items)
@@ -48,7 +49,7 @@ impl VerbPlaces {
         }
     }
 
-    // Puts a word at this place of the words.
+    // Replaces the word of bits at this place.
     fn put(&mut self, at: usize, word: u64)
         requires { at < length self.old.words.items }
         ensures { self.new.words.items ≡ set self.old.words.items at word }
@@ -56,7 +57,7 @@ impl VerbPlaces {
         self.words.as_mut_slice()[at] = word;
     }
 
-    // Puts this place in, if there is room.
+    // Adds this place, if there is room for it.
     fn add(&mut self, place: usize)
         ensures set { (other : ℕ) → IsRoom self.old.words.items other
             → HasPlace self.new.words.items other
@@ -70,7 +71,7 @@ impl VerbPlaces {
         }
     }
 
-    // Puts those of the first places in whose bit is 1, if there is room.
+    // Adds the places among the first 64 whose bit is 1, if there is room for these.
     pub(crate) fn add_bits(&mut self, bits: u64)
         ensures set { (place : ℕ) → IsRoom self.old.words.items place
             → HasPlace self.new.words.items place
@@ -83,8 +84,8 @@ impl VerbPlaces {
         }
     }
 
-    // Puts the places of the verbs in that the rule has, as far as there is room. There is none any
-    // more if it has all verbs: then nothing is to be passed over.
+    // Adds the places of the rule's verbs, as far as there is room. If the rule has the word for
+    // every verb, the set is left without room: then it lacks no place, so no line is passed over.
     pub(crate) fn add_rule(&mut self, rule: &Rule, verbs: &[Word])
         requires { IsAscendingBy (λ w. w ∷ []) verbs.now }
         ensures { AddsVerbs rule.now verbs.now self.old.words.items self.new.words.items }
@@ -100,7 +101,7 @@ impl VerbPlaces {
         }
     }
 
-    // Whether there is room for this place, and it isn't in.
+    // Whether the set lacks this place: there is room for it, and it isn't in the set.
     pub(crate) fn lack(&self, place: usize) -> bool
         ensures { IsTrue result ↔ LacksPlace self.now.words.items place }
     {
@@ -108,7 +109,8 @@ impl VerbPlaces {
         at < self.words.len() && (self.words.as_slice()[at] >> (place % PLACES)) & 1 == 0
     }
 
-    // The first place from this one on, and before `end`, that is lacking; `end`, if there is none.
+    // The first place, from this one on and before `end`, that the set lacks; `end` if there is
+    // none.
     pub(crate) fn past_had(&self, from: usize, end: usize) -> usize
         requires { from ≤ end }
         ensures within { (from ≤ result) × (result ≤ end) }
@@ -126,8 +128,8 @@ impl VerbPlaces {
         place
     }
 
-    // A place from this one on: those before it are lacking, as `lack` tells. It is in, or there is no
-    // room for it.
+    // The first place, from this one on, that the set doesn't lack: it is in the set, or there is
+    // no room for it.
     pub(crate) fn next(&self, from: usize) -> usize
         ensures on { from ≤ result }
         ensures none { (place : ℕ) → from ≤ place → place < result

@@ -1,4 +1,4 @@
-//! Walks along a line's grants whose bindings name who asks and may be live.
+//! Walks along a line's grants: those whose bindings name its principal and may be live.
 
 ghost use Rattle.std.specs.Prelude.{◌≡◌, ◌↔◌, IsTrue, ◌<◌, ◌≤◌};
 ghost use Rattle.std.specs.Prelude.{◌⊎◌, ℕ, IfSome, MatchOption, [], drop, false, length};
@@ -18,30 +18,30 @@ use rbac_subjects::Run;
 use rbac_terms::Principal;
 use rbac_universe::Universe;
 
-// About how many steps of a walk take as long as to look up a key of a principal.
+// About how many steps of a walk take as long as the look-up of one key of a principal.
 const STEPS_FOR_A_KEY: usize = 64;
 
-// About how many keys a principal has besides those of the groups given.
+// About how many keys a principal has besides the keys of its given groups.
 const IMPLIED_KEYS: usize = 2;
 
-// How many times as many steps are taken where runs are close.
+// By how much the number of steps is multiplied if runs are close together.
 const CLOSE: usize = 16;
 
 /// A walk along the grants of a line, run by run.
 #[derive(Clone, Copy, Default)]
 pub(crate) struct Walk {
-    // What is left of the run that the walk is in: the numbers `next..end`.
+    // The grants that are left of the current run: the numbers `next..end`.
     pub(crate) next: u32,
     end: u32,
-    // The place of the run after that one, among those that are kept.
+    // The place of the next run among the kept runs.
     later: usize,
-    // Past the runs that are kept: how many grants may still be stepped over before the next run is
-    // looked up.
+    // Past the kept runs: how many grants may still be stepped over before the next run is looked
+    // up.
     steps: usize,
 }
 
 impl Walk {
-    // The walk back at a grant of the run that it is in.
+    // The walk, set back to this grant of its current run.
     pub(crate) fn back_at(self, no: u32) -> Self
         ensures { result ≡ back_at self no }
     {
@@ -70,8 +70,9 @@ pub(crate) fn whole_walk() -> Walk
     }
 }
 
-// Returns the number of a cursor and moves on to the others; `None` if all were returned. `seen`
-// counts the grants that the walk came to: where it isn't their count, look-ups take longer.
+// Returns the number of the next cursor, and moves past it; `None` if no cursor is left. `seen`
+// counts the grants that the walk came to. With a wrong count the results are the same, but take
+// longer.
 #[inline(always)]
 pub(crate) fn next_cursor(
     index: &Index<'_>,
@@ -104,7 +105,8 @@ pub(crate) fn next_cursor(
     None
 }
 
-// The next grant of a binding that names who asks and may be live, whatever the grant's verbs.
+// The next grant whose binding names the line's principal and may be live, whatever the verbs of
+// its rule; moves past it.
 #[inline(always)]
 pub(crate) fn next_bound(
     index: &Index<'_>,
@@ -136,9 +138,9 @@ pub(crate) fn next_bound(
     Some(no)
 }
 
-// The next grant below `end` to look at. Skipped grants can't be cursors. Past the runs that are
-// kept, the grants after a run are looked at one by one, as long as that takes less than to look up
-// the next run.
+// The next grant below `end` to look at. Skipped grants can't be cursors, and a returned one
+// needn't be one. Past the kept runs, the grants after a run are looked at one by one, as long as
+// this takes less time than a look-up of the next run.
 #[inline(always)]
 pub(crate) fn next_below(
     index: &Index<'_>,
@@ -172,7 +174,7 @@ pub(crate) fn next_below(
     if no < end { Some(no) } else { None }
 }
 
-// The run after the one that the walk is in.
+// The run after the current one; `None` if there is none.
 fn next_run(index: &Index<'_>, line: Line<'_>, runs: &Runs, walk: &mut Walk) -> Option<Run>
     requires { AreRunsOn index.now (line_of line) runs.now walk.old.end
         (drop walk.old.later runs.now.kept.items) }
@@ -192,8 +194,8 @@ fn next_run(index: &Index<'_>, line: Line<'_>, runs: &Runs, walk: &mut Walk) -> 
     looked_up_run(index, line, walk)
 }
 
-// The run after the one that the walk is in, looked up. Few lines look one up, and all walk, so this
-// stays out of the code of walks.
+// Looks up the run after the current one. Not inlined, which keeps the code of walks small: all
+// lines walk, but few look up a run.
 #[inline(never)]
 fn looked_up_run(index: &Index<'_>, line: Line<'_>, walk: &mut Walk) -> Option<Run>
     ensures found { MatchOption result
@@ -208,9 +210,10 @@ fn looked_up_run(index: &Index<'_>, line: Line<'_>, walk: &mut Walk) -> Option<R
     Some(Run { start, end })
 }
 
-// How many grants to step over before the run after one is looked up that came so many grants after
-// the run before it. Each key of the principal is looked up. Where runs are close, stepping mostly
-// comes to the next one first.
+// How many grants to step over after a run before the next one is looked up. `gap` is how many
+// grants are between this run and the one before. A look-up takes about as long as
+// `STEPS_FOR_A_KEY` steps for each key of the principal. If runs are close together, more steps are
+// allowed, since they mostly come to the next run soon.
 fn steps_after(principal: &Principal, gap: u32) -> usize {
     let keys = principal.given().len().saturating_add(IMPLIED_KEYS);
     let steps = keys.saturating_mul(STEPS_FOR_A_KEY);
