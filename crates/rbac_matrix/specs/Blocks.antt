@@ -1,4 +1,4 @@
--- What blocks say about the seats of a line's grants.
+-- Blocks of a line's grants, each with the least of its seats.
 use Rattle.std.specs.Prelude.{◌≡◌, ℕ, ◌<◌, ◌≤◌, ◌⊎◌, List, ◌∷◌, length, min, nat_lt, if◌then◌else◌}
 use Rattle.std.specs.List.{slice_index_or}
 use Rattle.rbac_model.specs.Policies.{PolicyView}
@@ -12,23 +12,24 @@ use Rattle.rbac_matrix.specs.declared.kept.Kept.{Kept}
 use Rattle.rbac_matrix.specs.declared.line.Place.{Place}
 use Rattle.rbac_matrix.specs.declared.seat.Seat.{Seat}
 
--- of the seats numbered from `start` up to `end`, that of `number` is the first with the least
--- place, unless none of them is at an entry
+-- of the seats with numbers from `start` up to `end`, that of `number` is the first at the least
+-- place, which is `place`; or none of them is at an entry
 pub record IsLeastIn (seats : List Seat) (start end place number : ℕ) : Type 0 where
   pub bound : place ≤ past_all
   pub at : place < past_all → (start ≤ number) × (number < end)
       × ((seat_at seats number).place ≡ place)
   pub least : (k : ℕ) → start ≤ k → k < end → ComesFirst place number (seat_at seats k).place k
 
--- the block has the least of its grants' seats
+-- the block has the least of its grants' seats: its place, and the number of its grant
 abbrev pub IsBlock : List Seat → Block → Type 0
 IsBlock seats b = IsLeastIn seats b.walk.next b.end b.place b.number
 
--- the grant with that number is of the block
+-- the grant with that number belongs to the block
 abbrev pub IsOfBlock : Block → ℕ → Type 0
 IsOfBlock b k = (b.walk.next ≤ k) × (k < b.end)
 
--- the block with one more grant after its own, whose seat is at the place
+-- the block with one more grant after its own, whose seat is at the place; the block then ends at
+-- `end`
 abbrev pub joined : Block → ℕ → ℕ → ℕ → Block
 joined b number end place = record {
   walk = b.walk;
@@ -37,7 +38,7 @@ joined b number end place = record {
   number = if nat_lt place b.place then number else b.number;
 }
 
--- the block at that place; past the end it is `no_block`
+-- the block at that place; past the last block, `no_block`
 abbrev pub no_block : Block
 no_block = record {
   walk = record { next = 0; end = 0; later = 0; steps = 0 };
@@ -49,8 +50,8 @@ no_block = record {
 abbrev pub block_at : List Block → ℕ → Block
 block_at bs i = slice_index_or bs i no_block
 
--- the blocks have the least of their grants' seats, each comes after those before it, and the
--- grants below `count` whose seats are at an entry are all in them
+-- each block has a walk along the line's grants and the least of its grants' seats, and comes after
+-- the blocks before it; each grant below `count` whose seat is at an entry belongs to a block
 pub record AreBlocksBelow (p : PolicyView) (l : LineView) (runs : Runs) (seats : List Seat)
     (count : ℕ) (bs : List Block) : Type 0 where
   pub each : (i : ℕ) → i < length bs → IsBlock seats (block_at bs i)
@@ -66,12 +67,12 @@ pub record AreBlocksBelow (p : PolicyView) (l : LineView) (runs : Runs) (seats :
 abbrev pub AreBlocks : PolicyView → LineView → Runs → List Seat → List Block → Type 0
 AreBlocks p l runs seats bs = AreBlocksBelow p l runs seats (length seats) bs
 
--- these are the blocks of the line at the place, if there is a line there
+-- these are the blocks of the line at the place, if a line is there
 abbrev pub AreBlocksAt : PolicyView → UniverseView → Place → Kept → List Seat → Type 0
 AreBlocksAt p u at kept seats = (l : LineView) (ls : List LineView) → lines_from u at ≡ l ∷ ls
     → AreBlocks p l kept.runs seats kept.blocks.kept.items
 
--- of these blocks, the first with the least place has this place and number
+-- the first of these blocks with the least place has this place and number
 pub record IsLeastBlock (bs : List Block) (place number : ℕ) : Type 0 where
   pub at : ℕ
   pub within : at < length bs
@@ -81,8 +82,8 @@ pub record IsLeastBlock (bs : List Block) (place number : ℕ) : Type 0 where
   pub least : (i : ℕ) → i < length bs → place ≤ (block_at bs i).place
   pub first : (i : ℕ) → i < length bs → (block_at bs i).place ≤ place → at ≤ i
 
--- from `old` to `new`, seats at the place moved on, if their numbers are below `end`: at least one
--- of them did unless all still stand
+-- the step from `old` to `new` left `gain` entries behind; if `gain` is 0, each cursor below `end`
+-- whose seat was at the place still has it there
 pub record Advances (p : PolicyView) (l : LineView) (place end : ℕ) (old new : List Seat)
     (before after : ℕ) : Type 0 where
   pub gain : ℕ

@@ -1,4 +1,4 @@
--- The requests of a universe, in order, and the rows of some of them.
+-- The requests of a universe, in order, and the rows that they have.
 use Rattle.std.specs.Prelude.{◌≡◌, ◌⊎◌, List, [], ◌∷◌, map}
 use Rattle.std.specs.List.{flat_map}
 use Rattle.rbac_terms.specs.Text.{Text}
@@ -11,7 +11,7 @@ abbrev pub cell_at : Who → Text → Text → Listed → Cell
 cell_at who namespace verb t = record { who = who; namespace = namespace; verb = verb; target = t }
 
 -- the requests of a principal in a namespace for a verb; of a principal in a namespace; of a
--- principal; and all of them
+-- principal; and all requests
 abbrev pub line_cells : UniverseView → Who → Text → Text → List Cell
 line_cells u who namespace verb = map (cell_at who namespace verb) u.targets
 

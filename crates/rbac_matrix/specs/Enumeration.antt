@@ -1,4 +1,4 @@
--- An enumeration: the rows that it has left, and what holds between two calls.
+-- An enumeration: the rows that are left, and what holds between two calls.
 use Rattle.std.specs.Prelude.{◌≡◌, ℕ, ◌+◌, ◌↔◌, List, [], ◌∷◌, ◌++◌, Option, MatchOption, length}
 use Rattle.std.specs.Iterator.{Count, at_most}
 use Rattle.rbac_model.specs.Policies.{IsPolicy}
@@ -20,7 +20,7 @@ use Rattle.rbac_matrix.specs.declared.start.Start.{Start}
 unfoldable pub AreLeft : Rows → List RowView → Type 0
 AreLeft s rows = AreRowsOf s.index.now.held (cells_left s.universe.now s.at s.from) rows
 
--- how many requests are left; at most as many rows are left
+-- how many requests are left; no more rows than that are left
 unfoldable pub requests_left : Rows → ℕ
 requests_left s = length (cells_left s.universe.now s.at s.from)
 
@@ -31,13 +31,13 @@ left_to_pass s = requests_left s + length (lines_from s.universe.now s.at)
 abbrev pub left_at_most : Rows → Count
 left_at_most s = at_most (requests_left s)
 
--- the last line that was entered is that of the request
+-- the request is on the line that was entered last
 abbrev pub IsOnLine : Rows → Cell → Type 0
 IsOnLine s c = (ls : List LineView)
     × (lines_from s.universe.now s.at ≡ line c.who c.namespace c.verb ∷ ls)
 
--- a row was given: the first of those that were left; the others are left, and no line past the
--- row's own was entered
+-- the call returned the first of the rows that were left; the other rows are left, and no line past
+-- that of the returned row was entered
 pub record GivesRow (s : Rows) (r : Row) (t : Rows) : Type 0 where
   pub row : RowView
   pub shows : Shows r row
@@ -45,16 +45,16 @@ pub record GivesRow (s : Rows) (r : Row) (t : Rows) : Type 0 where
   pub left : (all : List RowView) → AreLeft s all
       ↔ ((others : List RowView) × (all ≡ row ∷ others) × AreLeft t others)
 
--- a call gave the first of the rows that were left, or nothing if none was left
+-- the call returned the first of the rows that were left, or nothing if none was left
 abbrev pub GivesFirstLeft : Rows → Option Row → Rows → Type 0
 GivesFirstLeft s r t = MatchOption r (AreLeft s [] × AreLeft t []) (λ row. GivesRow s row t)
 
--- the lines entered are those in `behind`, then the line of the seats, if there is one
+-- the lines that were entered are those in `behind`, then the line of the seats, if there is one
 abbrev pub EntersLast : List LineView → List LineView → List LineView → Type 0
 EntersLast [] behind entered = entered ≡ behind
 EntersLast (l ∷ ls) behind entered = entered ≡ behind ++ l ∷ []
 
--- what holds between two calls, with the seats of the grants below `upto` past the place
+-- what holds between two calls, with the seats of the grants below `upto` past the current target
 pub record IsUnderWay (s : Rows) (upto : ℕ) : Type 0 where
   pub policy : IsPolicy s.index.now
   pub universe : IsUniverse s.universe.now
@@ -71,13 +71,13 @@ pub record IsUnderWay (s : Rows) (upto : ℕ) : Type 0 where
 abbrev pub IsGoing : Rows → Type 0
 IsGoing s = IsUnderWay s 0
 
--- there is a line, and only repeats are left of it
+-- a line is at the enumeration's place, and only repeats are left of it
 abbrev pub HasRest : Rows → Type 0
 HasRest s = (l : LineView) × (ls : List LineView) × (lines_from s.universe.now s.at ≡ l ∷ ls)
     × HasRepeatsLeft s.index.now s.universe.now l s.from
 
--- the enumeration begins at `start`, with no row given; no more cursors were sought than that line
--- has, and none if all of its rows are included
+-- the enumeration begins at `start`, with no row returned yet; the first entry was searched for no
+-- more cursors than that line has, and for none if the rows begin with the line's first target
 pub record BeginsAt (s : Rows) (start : Start) : Type 0 where
   pub at : s.at ≡ start.at
   pub from : s.from ≡ start.from
@@ -86,13 +86,13 @@ pub record BeginsAt (s : Rows) (start : Start) : Type 0 where
   pub whole : start.from ≡ 0 → s.sought ≡ 0
   pub sought : AreSought s.index.now s.universe.now s.start s.sought
 
--- the lines that were entered: those from the first one to that of the seats, inclusive
+-- the lines that were entered: from the first line to that of the seats, inclusive
 pub record AreEntered (s : Rows) (entered : List LineView) : Type 0 where
   pub behind : List LineView
   pub whole : lines_from s.universe.now s.start ≡ behind ++ lines_from s.universe.now s.at
   pub last : EntersLast (lines_from s.universe.now s.at) behind entered
 
--- `new` is the enumeration `old`, further on
+-- `new` is the same enumeration as `old`: what it borrows and where it began are the same
 pub record GoesOn (old new : Rows) : Type 0 where
   pub index : new.index.now ≡ old.index.now
   pub universe : new.universe.now ≡ old.universe.now

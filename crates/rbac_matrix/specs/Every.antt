@@ -14,14 +14,14 @@ use Rattle.rbac_token.specs.Marks.{name_texts}
 use Rattle.rbac_token.specs.declared.mark.BindingName.{BindingName}
 use Rattle.rbac_token.specs.declared.mark.Mark.{Mark}
 
--- the row's binding is held, and it grants the row's request, which is one of the universe and fits
+-- the row's binding is held and grants the row's request, which is one of the universe and fits
 abbrev pub IsEveryRow : Held → UniverseView → RowView → Type 0
 IsEveryRow h u row =
     IsCellOf u row.cell × Fits row.cell × Contains h.bindings row.binding
     × Grants h row.binding row.cell.who row.cell.namespace row.cell.verb row.cell.target.0
 
--- the texts by which these rows are ordered: the six of the key, then the binding's kind word,
--- namespace and name, by which bindings are ordered
+-- the texts by which these rows are in order: the six texts of the key, then the binding's kind
+-- word, namespace and name, by which bindings are in order
 abbrev pub every_name : RowView → List Text
 every_name row = texts (cell_key row.cell) ++ binding_name row.binding
 
@@ -30,15 +30,15 @@ pub record IsEvery (h : Held) (u : UniverseView) (rows : List RowView) : Type 0 
   pub ordered : IsAscendingBy every_name rows
   pub exact : (row : RowView) → Contains rows row ↔ IsEveryRow h u row
 
--- a row comes after a mark whose key is less; also after a mark that has the row's own key, and a
--- binding that comes before the row's (own)
+-- a row comes after a mark whose key is less than the row's; and also after a mark with the same
+-- key and a binding that comes before the row's binding (own)
 abbrev pub comes_after : KeyTexts → Option BindingName → RowView → Bool
 comes_after k None row = is_gt (key_cmp (cell_key row.cell) k)
 comes_after k (Some b) row =
     is_gt (slice_cmp text_cmp (every_name row) (texts k ++ name_texts (Some b)))
 
 -- a row comes after a mark with a binding, part by part: its key is greater, or its key is the
--- mark's and its binding comes after the mark's
+-- mark's and its binding comes after the mark's binding
 abbrev pub StandsPast : KeyTexts → BindingName → RowView → Type 0
 StandsPast k b row =
     (key_cmp (cell_key row.cell) k ≡ Greater)
@@ -54,7 +54,7 @@ every_after (Some m) rows = filter (comes_after m.key m.binding) rows
 abbrev pub every_page : Option Mark → ℕ → List RowView → List RowView × Bool
 every_page m n rows = (take n (every_after m rows), nat_lt n (length (every_after m rows)))
 
--- the mark of a row: its key and its binding's name
+-- the name of a binding; and the mark of a row, which is its key and its binding's name
 abbrev pub marked_name : Binding → BindingName
 marked_name b = record { namespace = b.namespace; name = b.name }
 
@@ -62,14 +62,14 @@ abbrev pub mark_of : RowView → Mark
 mark_of row = record { key = cell_key row.cell; binding = Some (marked_name row.binding) }
 
 -- the rows after a mark are its page, then the rows after the mark of the page's last row; the page
--- says that more follow exactly if some do (own)
+-- states that more rows follow exactly if some do (own)
 abbrev pub EveryPageJoins : Option Mark → ℕ → List RowView → RowView → Type 0
 EveryPageJoins m n rows last =
     (every_after m rows ≡ (every_page m n rows).0 ++ every_after (Some (mark_of last)) rows)
     × (((every_page m n rows).1 ≡ true) ↔ (every_after (Some (mark_of last)) rows ≢ []))
 
--- each page of every granting binding's rows that isn't empty, at any limit, joins the rows after
--- it by its last row's mark (own)
+-- each nonempty page of the rows of every granting binding, at any limit, joins the rows after the
+-- mark of its last row (own)
 abbrev pub EveryPagesJoin : Type 0
 EveryPagesJoin =
     (held : Held) (u : UniverseView) (rows : List RowView) → IsEvery held u rows

@@ -1,4 +1,4 @@
--- An enumeration of every granting binding: the rows that it has left, and what holds between two
+-- An enumeration of every granting binding: the rows that are left, and what holds between two
 -- calls.
 use Rattle.std.specs.Prelude.{◌≡◌, ℕ, ◌+◌, ◌<◌, ◌≤◌, ◌⊎◌, ◌↔◌, List, [], ◌∷◌, ◌++◌, Option}
 use Rattle.std.specs.Prelude.{MatchOption, drop, length, map}
@@ -13,31 +13,31 @@ use Rattle.rbac_matrix.specs.RowTexts.{Shows}
 use Rattle.rbac_matrix.specs.declared.row.Row.{Row}
 use Rattle.rbac_matrix.specs.declared.every_rows.EveryRows.{EveryRows}
 
--- each of these requests with each binding; the first request only with the bindings from a place
--- on
+-- each of these requests with each binding, but the first request only with the bindings from a
+-- place on
 abbrev pub pairs_from : List Binding → ℕ → List Cell → List RowView
 pairs_from bs place [] = []
 pairs_from bs place (c ∷ cs) = map (pair_of c) (drop place bs) ++ pairs_of bs cs
 
--- the pairs from the enumeration's place and its binding's place on
+-- the pairs that are left: from the enumeration's line, target and binding on
 abbrev pub pairs_here : EveryRows → List RowView
 pairs_here s =
     pairs_from s.rows.index.now.held.bindings s.binding
     (cells_left s.rows.universe.now s.rows.at s.rows.from)
 
--- these rows are left: those of the pairs in `pairs_here` that are granted
+-- these rows are left: the pairs in `pairs_here` that are granted
 unfoldable pub AreEveryLeft : EveryRows → List RowView → Type 0
 AreEveryLeft s rows = AreThose (IsGranted s.rows.index.now.held) (pairs_here s) rows
 
--- how many pairs are left; at most as many rows are left
+-- how many pairs are left; no more rows than that are left
 unfoldable pub pairs_left : EveryRows → ℕ
 pairs_left s = length (pairs_here s)
 
 abbrev pub every_at_most : EveryRows → Count
 every_at_most s = at_most (pairs_left s)
 
--- a row was given: the first of those that were left; the others are left, and no line past the
--- row's own was entered
+-- the call returned the first of the rows that were left; the other rows are left, and no line past
+-- that of the returned row was entered
 pub record GivesPair (s : EveryRows) (r : Row) (t : EveryRows) : Type 0 where
   pub row : RowView
   pub shows : Shows r row
@@ -45,7 +45,7 @@ pub record GivesPair (s : EveryRows) (r : Row) (t : EveryRows) : Type 0 where
   pub left : (all : List RowView) → AreEveryLeft s all
       ↔ ((others : List RowView) × (all ≡ row ∷ others) × AreEveryLeft t others)
 
--- a call gave the first of the rows that were left, or nothing if none was left
+-- the call returned the first of the rows that were left, or nothing if none was left
 abbrev pub GivesEvery : EveryRows → Option Row → EveryRows → Type 0
 GivesEvery s r t = MatchOption r (AreEveryLeft s [] × AreEveryLeft t []) (λ row. GivesPair s row t)
 
@@ -53,8 +53,7 @@ GivesEvery s r t = MatchOption r (AreEveryLeft s [] × AreEveryLeft t []) (λ ro
 abbrev pub AreBelow : PolicyView → ℕ → ℕ → Type 0
 AreBelow p upto place = (n at : ℕ) → IsOfBinding p n at → (n < upto) ↔ (at < place)
 
--- `place` is the one after that of the grant's binding, and `end` is where the grants of that
--- binding end
+-- `place` is the place after that of the grant's binding, whose grants end at `end`
 pub record PassesBinding (p : PolicyView) (number place end : ℕ) : Type 0 where
   pub at : ℕ
   pub start : ℕ
@@ -63,7 +62,7 @@ pub record PassesBinding (p : PolicyView) (number place end : ℕ) : Type 0 wher
   pub ends : (n i : ℕ) → IsOfBinding p n i → (n < end) ↔ (i ≤ at)
   pub is : place ≡ at + 1
 
--- `place` is that of the grant's binding, and `start` is where the grants of that binding begin
+-- `place` is the place of the grant's binding, whose grants begin at `start`
 pub record BeginsBinding (p : PolicyView) (number place start : ℕ) : Type 0 where
   pub end : ℕ
   pub of : IsOfBinding p number place

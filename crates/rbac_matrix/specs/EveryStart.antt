@@ -29,13 +29,13 @@ abbrev pub key_of_mark : Option Mark → Option KeyTexts
 key_of_mark None = None
 key_of_mark (Some m) = Some m.key
 
--- a row comes after the mark; without a mark all rows do
+-- a row comes after the mark; without a mark, each row does
 abbrev pub ComesAfter : Option Mark → RowView → Type 0
 ComesAfter None row = Unit {0}
 ComesAfter (Some m) row = comes_after m.key m.binding row ≡ true
 
 -- the granted pairs from this place of a line, a target and a binding on come after the mark, and
--- none of the granted pairs before it does
+-- no granted pair before does
 pub record IsEveryStart (h : Held) (u : UniverseView) (m : Option Mark) (at : Place)
     (from place : ℕ) : Type 0 where
   pub before : List RowView
@@ -46,7 +46,7 @@ pub record IsEveryStart (h : Held) (u : UniverseView) (m : Option Mark) (at : Pl
       → IsGranted h r → ComesAfter m r
 
 -- the requests after the key begin on this line, which is the key's own if the universe has it; the
--- place within the line comes no later than they do
+-- target at `from` comes no later than that of the first of them
 pub record IsKeyStart (u : UniverseView) (k : Option KeyTexts) (at : Place)
     (from : ℕ) : Type 0 where
   pub first : ℕ
@@ -54,15 +54,16 @@ pub record IsKeyStart (u : UniverseView) (k : Option KeyTexts) (at : Place)
   pub line : BeginsOnLine u k at first
   pub within : from ≤ first
 
--- the rows begin at the first line, as do the requests after the key; cursors were sought only if
--- that is within the line, and no more than the line has
+-- the rows begin on the first line, where the requests after the key begin; the first entry was
+-- searched for no more cursors than the line has, and for none if the rows begin with the line's
+-- first target
 pub record EveryStarts (s : EveryRows) (k : Option KeyTexts) : Type 0 where
   pub start : IsKeyStart s.rows.universe.now k s.rows.start s.rows.from
   pub here : s.rows.at ≡ s.rows.start
   pub whole : s.rows.from ≡ 0 → s.rows.sought ≡ 0
   pub sought : AreSought s.rows.index.now s.rows.universe.now s.rows.start s.rows.sought
 
--- the key's request is at this place of a line and this place of a target
+-- the request with the key is at this place of a line and this place of a target
 pub record IsOwnRequest (u : UniverseView) (k : KeyTexts) (at : Place) (place : ℕ) : Type 0 where
   pub line : IsOwnPlace u k at
   pub target : IsFoundAt (slice_cmp text_cmp) what_texts (whats u) (target_part k) place
@@ -71,7 +72,7 @@ pub record IsOwnRequest (u : UniverseView) (k : KeyTexts) (at : Place) (place : 
 abbrev pub HasNoRequest : UniverseView → KeyTexts → Type 0
 HasNoRequest u k = (c : Cell) → IsCellOf u c → cell_name c ≡ texts k → ⊥
 
--- the bindings before the place come no later than the name, and the others come after it
+-- the bindings before the place come no later than the name, and the other bindings come after it
 pub record ArePastName (bs : List Binding) (b : BindingName) (place : ℕ) : Type 0 where
   pub below : (j : ℕ) (x : Binding) → j < place → slice_get bs j ≡ Some x
       → slice_cmp text_cmp (binding_name x) (name_texts (Some b)) ≡ Greater → ⊥

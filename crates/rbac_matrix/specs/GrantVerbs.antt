@@ -12,17 +12,17 @@ use Rattle.rbac_matrix.specs.declared.grant_verbs.GrantVerbs.{GrantVerbs}
 abbrev pub HasBit : ℕ → ℕ → Type 0
 HasBit bits place = bit_at bits place ≡ 1
 
--- of the first 64 verbs, those whose bit is 1 are the rule's
+-- of the first 64 verbs, the rule has exactly those whose bit is 1
 abbrev pub AreBits : Rule → List Text → ℕ → Type 0
 AreBits r verbs bits = (place : ℕ) (verb : Text) → place < 64 → slice_get verbs place ≡ Some verb
     → HasBit bits place ↔ VerbOk r verb
 
--- of the first 64 verbs, those of the grant's rule are kept
+-- the bits are those of the grant's rule
 abbrev pub AreVerbsOfGrant : PolicyView → UniverseView → GrantVerbs → Type 0
 AreVerbsOfGrant p u told = (g : GrantView) → slice_get p.grants told.no ≡ Some g
     → AreBits g.rule.rule u.verbs told.bits
 
--- they are kept of each of these grants
+-- the bits of each of these grants are those of its rule
 abbrev pub AreVerbsOfGrants : PolicyView → UniverseView → List GrantVerbs → Type 0
 AreVerbsOfGrants p u kept = All (AreVerbsOfGrant p u) kept
 

@@ -7,14 +7,14 @@ use Rattle.rbac_matrix.specs.Starting.{BeginsOnLine, IsStart}
 use Rattle.rbac_matrix.specs.declared.matrix.Matrix.{Matrix}
 use Rattle.rbac_matrix.specs.declared.enumeration.Rows.{Rows}
 
--- there are as many reaches and as many seats as grants, and each reach is that of its grant
+-- there are as many reaches and as many seats as grants, and each reach is that of its grant's rule
 pub record AreLent (m : Matrix) : Type 0 where
   pub reaches : AreReaches m.index.now m.universe.now m.reaches.now
   pub seats : length m.seats.now ≡ length m.index.now.grants
 
--- the rows begin at the first line, which is the key's own if the universe has it, at the place
--- where the requests after the key begin; cursors were sought only if that is within the line, and
--- no more than the line has
+-- the rows begin on the first line, which is the key's own if the universe has it, at the target
+-- where the requests after the key begin; the first entry was searched for no more cursors than the
+-- line has, and for none if the rows begin with the line's first target
 pub record Starts (s : Rows) (k : Option KeyTexts) : Type 0 where
   pub start : IsStart s.universe.now k s.start s.from
   pub here : s.at ≡ s.start

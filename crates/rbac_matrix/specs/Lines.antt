@@ -8,7 +8,7 @@ use Rattle.rbac_model.specs.Universes.{UniverseView, Cell}
 use Rattle.rbac_matrix.specs.declared.line.Place.{Place}
 use Rattle.rbac_matrix.specs.Cells.{cell_at}
 
--- a line of the matrix (own): who, namespace and verb
+-- a line of the matrix (own): a principal, a namespace and a verb
 pub record LineView : Type 0 where
   pub who : Who
   pub namespace : Text
@@ -17,13 +17,13 @@ pub record LineView : Type 0 where
 abbrev pub line : Who → Text → Text → LineView
 line who namespace verb = record { who = who; namespace = namespace; verb = verb }
 
--- what `first` gives for the first element, then what `whole` gives for each of the others
+-- the list that `first` makes of the first element, then the lists that `whole` makes of the others
 abbrev pub onward : {A B : Type 0} → (A → List B) → (A → List B) → List A → List B
 onward first whole [] = []
 onward first whole (x ∷ xs) = first x ++ flat_map whole xs
 
--- the lines of a principal in a namespace from a verb on; those of a principal from a namespace and
--- a verb on; and all lines from a place on
+-- the lines of a principal in a namespace, from a verb on; the lines of a principal, from a
+-- namespace and a verb on; and all lines, from a place on
 abbrev pub verb_lines : UniverseView → Who → ℕ → Text → List LineView
 verb_lines u who v namespace = map (line who namespace) (drop v u.verbs)
 
@@ -42,19 +42,20 @@ place p n v = record { principal = p; namespace = n; verb = v }
 abbrev pub next_verb : Place → Place
 next_verb at = place at.principal at.namespace (at.verb + 1)
 
--- the place, or the first one of the next namespace or of a later principal
+-- `to` is the place itself, or the first place of a principal, or, if `at` isn't the first place of
+-- a namespace, the first place of a namespace of the same principal
 abbrev pub IsMoved : Place → Place → Type 0
 IsMoved at to =
     (to ≡ at)
     ⊎ ((to.verb ≡ 0) × ((to.namespace ≡ 0) ⊎ ((to.principal ≡ at.principal) × (0 < at.verb))))
 
--- the place is that of the line
+-- the line is at the place
 pub record IsLineAt (u : UniverseView) (at : Place) (l : LineView) : Type 0 where
   pub principal : slice_get u.principals at.principal ≡ Some l.who
   pub namespace : slice_get u.namespaces at.namespace ≡ Some l.namespace
   pub verb : slice_get u.verbs at.verb ≡ Some l.verb
 
--- the place is that of a line, or past all lines
+-- a line is at the place, or the place is past all lines
 abbrev pub IsSettled : UniverseView → Place → Type 0
 IsSettled u at =
     ((at.principal < length u.principals) × (at.namespace < length u.namespaces)
@@ -65,6 +66,6 @@ IsSettled u at =
 unfoldable pub line_cells_from : UniverseView → ℕ → LineView → List Cell
 line_cells_from u from l = map (cell_at l.who l.namespace l.verb) (drop from u.targets)
 
--- the requests of these lines; those of the first line only from a target's place on
+-- the requests of these lines, on the first line only those from a target's place on
 abbrev pub cells_of_lines : UniverseView → ℕ → List LineView → List Cell
 cells_of_lines u from ls = onward (line_cells_from u from) (line_cells_from u 0) ls

@@ -1,5 +1,5 @@
--- How many entries an enumeration has read: between the number of rows given and the number of
--- entries that its lines have.
+-- How many entries an enumeration has read: at least as many as rows were returned, and at most as
+-- many as the cursors of its lines have, apart from the search on the first line.
 use Rattle.std.specs.Prelude.{◌≡◌, ℕ, ◌+◌, ◌*◌, ◌≤◌, List, [], ◌∷◌, ◌++◌, length}
 use Rattle.std.specs.List.{flat_map}
 use Rattle.rbac_model.specs.Policies.{Held, PolicyView}
@@ -12,14 +12,14 @@ use Rattle.rbac_matrix.specs.Seats.{AreEmpty, AreSeated, passed, standing}
 use Rattle.rbac_matrix.specs.declared.line.Place.{Place}
 use Rattle.rbac_matrix.specs.declared.seat.Seat.{Seat}
 
--- how many pairs there are, over these lines, of a cursor and a target that its rule matches, verbs
+-- how many touches these lines have: pairs of a cursor and a target that its rule matches, verbs
 -- aside
 abbrev pub AreTouched : PolicyView → UniverseView → List LineView → ℕ → Type 0
 AreTouched p u [] n = n ≡ 0
 AreTouched p u (l ∷ ls) n = (here : ℕ) × (later : ℕ) × AreTouches p u l.who l.namespace l.verb here
     × AreTouched p u ls later × (n ≡ here + later)
 
--- from one place up to another there are only lines without rows
+-- no line from `at` up to `to` has a row
 pub record Skips (h : Held) (u : UniverseView) (at to : Place) : Type 0 where
   pub between : List LineView
   pub whole : lines_from u at ≡ between ++ lines_from u to
@@ -34,7 +34,9 @@ pub record IsReady (p : PolicyView) (u : UniverseView) (rs : List (List ℕ)) (a
       → AreSeated p l rs from upto seats
   pub ended : lines_from u at ≡ [] → AreEmpty p seats
 
--- how many entries the meter counts, from the line at `start` on
+-- how many entries the meter counts, from the line at `start` on: at least one for each row that
+-- was given and each seat at an entry; at most 20 for each of the `sought` cursors, one for each
+-- touch of the lines left behind, and one for each entry that the seats have passed or are at
 pub record IsMetered (p : PolicyView) (u : UniverseView) (start : Place) (sought : ℕ) (at : Place)
     (seats : List Seat) (given count : ℕ) : Type 0 where
   pub total : ℕ
@@ -45,7 +47,7 @@ pub record IsMetered (p : PolicyView) (u : UniverseView) (start : Place) (sought
   pub high : (n : ℕ) → AreTouched p u behind n
       → total ≤ 20 * sought + n + passed seats + standing seats
 
--- no more cursors were sought than the line at the place has
+-- `sought` is at most the number of cursors that the line at the place has
 abbrev pub AreSought : PolicyView → UniverseView → Place → ℕ → Type 0
 AreSought p u at sought = (l : LineView) (ls : List LineView) (n : ℕ) → lines_from u at ≡ l ∷ ls
     → IsCount (IsCursor l.who l.namespace l.verb) p.grants n → sought ≤ n

@@ -1,10 +1,10 @@
--- Rows that repeat in a namespace what is allowed in the whole cluster, and the rows without them.
+-- Repeats: rows of a namespace by a ClusterRoleBinding, which allows the same in the whole cluster.
 use Rattle.std.specs.Prelude.{◌≡◌, ◌↔◌, Bool, true, false, not, Option, None, List, [], ◌∷◌, ◌++◌}
 use Rattle.std.specs.Prelude.{All, Contains, filter}
 use Rattle.rbac_terms.specs.Text.{Text}
 use Rattle.rbac_model.specs.Universes.{UniverseView, RowView, cell_key}
 
--- a request has a namespace, and a binding is a ClusterRoleBinding, which has none
+-- the namespace of a request isn't empty, and the binding is a ClusterRoleBinding, which has none
 abbrev pub repeats_at : Text → Option Text → Bool
 repeats_at (c ∷ namespace) None = true
 repeats_at _ _ = false
@@ -14,7 +14,7 @@ repeats_at _ _ = false
 abbrev pub is_repeat : RowView → Bool
 is_repeat row = repeats_at (cell_key row.cell).namespace row.binding.namespace
 
--- the rows that are no repeats
+-- the rows that aren't repeats
 abbrev pub without_repeats : List RowView → List RowView
 without_repeats rows = filter (λ row. not (is_repeat row)) rows
 
@@ -22,8 +22,8 @@ without_repeats rows = filter (λ row. not (is_repeat row)) rows
 abbrev pub everywhere : RowView → RowView
 everywhere row = record row { cell = record row.cell { namespace = [] } }
 
--- each row that is left out as a repeat is among the others with the empty namespace, if the
--- universe has that (own)
+-- if the universe has the empty namespace, each row that is left out as a repeat is among the other
+-- rows with that namespace (own)
 abbrev pub RepeatsStandElsewhere : UniverseView → List RowView → Type 0
 RepeatsStandElsewhere u rows = Contains u.namespaces [] → (row : RowView) → Contains rows row
     → is_repeat row ≡ true → Contains (without_repeats rows) (everywhere row)
@@ -35,13 +35,13 @@ pub record PassesSome (before after : List RowView → Type 0) : Type 0 where
   pub left : (all : List RowView) → before all
       ↔ ((others : List RowView) × (all ≡ passed ++ others) × after others)
 
--- the first row that is left, if there is one, is no repeat
+-- the first row that is left, if there is one, isn't a repeat
 abbrev pub StaysFirst : (List RowView → Type 0) → Type 0
 StaysFirst left = (row : RowView) (others : List RowView) → left (row ∷ others)
     → is_repeat row ≡ false
 
--- repeats were passed: those that came before the first row that is none, or all rows if there is
--- none. So the same rows are left that are no repeats
+-- the rows before the first row that isn't a repeat were passed, or all rows if each is a repeat;
+-- so the rows left before and after are the same without repeats
 pub record PassesRepeats (before after : List RowView → Type 0) : Type 0 where
   pub some : PassesSome before after
   pub first : StaysFirst after

@@ -1,4 +1,4 @@
--- How the requests of a universe are gone through, and which rows they give.
+-- How an enumeration goes from one row to the next.
 use Rattle.std.specs.Prelude.{◌≡◌, ℕ, ◌<◌, ◌≤◌, ◌⊎◌, Some, List, [], ◌∷◌, ◌++◌, slice_get}
 use Rattle.rbac_model.specs.Policies.{Held, PolicyView, GrantView, GrantAllows}
 use Rattle.rbac_model.specs.Universes.{UniverseView, Listed, Cell, RowView, Fits}
@@ -10,13 +10,13 @@ use Rattle.rbac_matrix.specs.declared.line.Place.{Place}
 use Rattle.rbac_matrix.specs.Seats.{ArePast, AreSeated, AreSeatedAbout, seat_at}
 use Rattle.rbac_matrix.specs.declared.seat.Seat.{Seat}
 
--- from these requests to those that are left, these rows were given
+-- `ds` are the last of the requests `cs`, and these rows are the rows of the requests before `ds`
 pub record Passes (h : Held) (cs ds : List Cell) (rows : List RowView) : Type 0 where
   pub between : List Cell
   pub whole : cs ≡ between ++ ds
   pub are : AreRowsOf h between rows
 
--- a request of a line
+-- the line's request for a target
 abbrev pub cell_of : LineView → Listed → Cell
 cell_of l t = cell_at l.who l.namespace l.verb t
 
@@ -31,7 +31,7 @@ pub record IsHit (p : PolicyView) (u : UniverseView) (l : LineView)
   pub fits : Fits (cell_of l target)
   pub allows : GrantAllows l.who l.namespace l.verb target.0 grant
 
--- the row of a hit
+-- the row of a hit, with the binding of its grant
 abbrev pub row_on : (p : PolicyView) (u : UniverseView) (l : LineView) (place number : ℕ)
     → IsHit p u l place number → RowView
 row_on p u l place number r = record { cell = cell_of l r.target; binding = r.grant.binding }
@@ -40,19 +40,19 @@ row_on p u l place number r = record { cell = cell_of l r.target; binding = r.gr
 abbrev pub IsNoEarlier : ℕ → ℕ → ℕ → ℕ → Type 0
 IsNoEarlier place number from upto = (from < place) ⊎ ((from ≡ place) × (upto ≤ number))
 
--- the first hit, by place and then by number, from a place and a number on
+-- the first hit from a place and a number on, in order of places, then of numbers
 pub record IsNextHit (p : PolicyView) (u : UniverseView) (l : LineView)
     (from upto place number : ℕ) : Type 0 where
   pub hit : IsHit p u l place number
   pub onward : IsNoEarlier place number from upto
   pub first : (q k : ℕ) → IsHit p u l q k → IsNoEarlier q k from upto → IsNoEarlier q k place number
 
--- there is no hit from a place and a number on
+-- no hit is at a place and a number from these on
 abbrev pub HasNoHit : PolicyView → UniverseView → LineView → ℕ → ℕ → Type 0
 HasNoHit p u l from upto = (q k : ℕ) → IsHit p u l q k → IsNoEarlier q k from upto → ⊥
 
--- the next hit of a line, with the seat of its grant at its place; the seats are where they are if
--- the rows from that place on are left, past it for grants that come before the hit's
+-- the next hit of the line, with the seat of its grant at its place; the seats are right for the
+-- rows from that place on, whether the grants before the hit's count as past it or not
 pub record FindsRow (p : PolicyView) (u : UniverseView) (rs : List (List ℕ)) (l : LineView)
     (from upto : ℕ) (seats : List Seat) (place number : ℕ) : Type 0 where
   pub next : IsNextHit p u l from upto place number
@@ -61,7 +61,7 @@ pub record FindsRow (p : PolicyView) (u : UniverseView) (rs : List (List ℕ)) (
   pub about : (end : ℕ) → number < end → AreSeatedAbout p l rs place end seats
   pub here : (low : ℕ) → low ≤ number → IsNoEarlier place low from upto → AreSeated p l rs place low seats
 
--- the line has no further hit
+-- the line has no further hit, and no seat is at an entry
 pub record EndsLine (p : PolicyView) (u : UniverseView) (rs : List (List ℕ)) (l : LineView)
     (from upto : ℕ) (seats : List Seat) : Type 0 where
   pub none : HasNoHit p u l from upto
@@ -74,7 +74,8 @@ pub record EndsLine (p : PolicyView) (u : UniverseView) (rs : List (List ℕ)) (
 abbrev pub cells_left : UniverseView → Place → ℕ → List Cell
 cells_left u at from = cells_of_lines u from (lines_from u at)
 
--- on a later line, at its first place, with nothing allowed in between
+-- the line at `at` has no further hit, and only lines without rows are between it and the place
+-- `to`
 pub record PassesLine (p : PolicyView) (u : UniverseView) (at : Place) (from upto : ℕ)
     (to : Place) : Type 0 where
   pub line : LineView
@@ -83,13 +84,13 @@ pub record PassesLine (p : PolicyView) (u : UniverseView) (at : Place) (from upt
   pub none : HasNoHit p u line from upto
   pub skips : Skips p.held u next to
 
--- still at the same place of a line, or at the first place of a later line
+-- the search is still at the same line, target and number, or at the beginning of a later line
 abbrev pub Leads : PolicyView → UniverseView → Place → ℕ → ℕ → Place → ℕ → ℕ → Type 0
 Leads p u at from upto to begin low =
     ((to ≡ at) × (begin ≡ from) × (low ≡ upto))
     ⊎ ((begin ≡ 0) × (low ≡ 0) × PassesLine p u at from upto to)
 
--- from line place `at`, target place `from` and grant number `upto` on, the next hit was that of
+-- from line place `at`, target place `from` and grant number `upto` on, the next hit is that of
 -- target `place` and grant `number`, on the line at `to`
 pub record FindsCell (p : PolicyView) (u : UniverseView) (rs : List (List ℕ)) (at : Place)
     (from upto : ℕ) (to : Place) (seats : List Seat) (place number : ℕ) : Type 0 where
@@ -102,7 +103,7 @@ pub record FindsCell (p : PolicyView) (u : UniverseView) (rs : List (List ℕ)) 
   pub found : FindsRow p u rs line begin low seats place number
   pub settled : IsSettled u to
 
--- there was no further hit
+-- no further hit is on any line, and the place is past all lines
 pub record EndsAll (p : PolicyView) (u : UniverseView) (rs : List (List ℕ)) (at : Place)
     (from upto : ℕ) (to : Place) (seats : List Seat) : Type 0 where
   pub ended : lines_from u to ≡ []

@@ -1,4 +1,4 @@
--- Lines of which each row, of whichever granting binding, is a repeat.
+-- Lines on which each row, of any granting binding, is a repeat.
 use Rattle.std.specs.Prelude.{◌≡◌, ◌≢◌, ℕ, ◌<◌, ◌≤◌, List, [], ◌∷◌, ◌++◌, Some, None, Contains}
 use Rattle.std.specs.Prelude.{length, slice_get, true}
 use Rattle.rbac_terms.specs.declared.granting.Binding.{Binding}
@@ -11,43 +11,42 @@ use Rattle.rbac_matrix.specs.Pairs.{IsGranted, pair_of}
 use Rattle.rbac_matrix.specs.Passing.{cell_of}
 use Rattle.rbac_matrix.specs.declared.line.Place.{Place}
 
--- the line has a namespace, and no RoleBinding has a cursor on it: it repeats that of the empty
--- namespace
+-- the line has a namespace, and no RoleBinding has a cursor on it; so each of its rows is a repeat
 pub record IsRepeated (p : PolicyView) (l : LineView) : Type 0 where
   pub some : l.namespace ≢ []
   pub cursors : (k : ℕ) (c : IsCursorAt p l k) → c.grant.binding.namespace ≡ None
 
--- from one place up to another there are only lines of which each is repeated
+-- each line from `at` up to `to` has only repeats, as `IsRepeated` states
 pub record PassesRepeated (p : PolicyView) (u : UniverseView) (at to : Place) : Type 0 where
   pub between : List LineView
   pub whole : lines_from u at ≡ between ++ lines_from u to
   pub repeated : (l : LineView) → Contains between l → IsRepeated p l
 
--- each pair of the line's request for the target at that place and a binding that is granted is a
--- repeat
+-- if a binding grants the line's request for the target at that place, and the request fits, their
+-- pair is a repeat
 abbrev pub HasRepeatsAt : PolicyView → UniverseView → LineView → ℕ → Type 0
 HasRepeatsAt p u l place = (at : ℕ) (t : Listed) (b : Binding) → slice_get u.targets place ≡ Some t
     → slice_get p.held.bindings at ≡ Some b → IsGranted p.held (pair_of (cell_of l t) b)
     → is_repeat (pair_of (cell_of l t) b) ≡ true
 
--- that is so of each request of the line; of those for the targets from one place up to another
+-- this holds for each target; and for the targets from one place up to another
 abbrev pub HasRepeats : PolicyView → UniverseView → LineView → Type 0
 HasRepeats p u l = (place : ℕ) → HasRepeatsAt p u l place
 
 abbrev pub HasRepeatsFrom : PolicyView → UniverseView → LineView → ℕ → ℕ → Type 0
 HasRepeatsFrom p u l from to = (place : ℕ) → from ≤ place → place < to → HasRepeatsAt p u l place
 
--- the grants before that number are of ClusterRoleBindings
+-- the grants below that number belong to ClusterRoleBindings
 abbrev pub AreClusterWide : PolicyView → ℕ → Type 0
 AreClusterWide p count = (k : ℕ) (g : GrantView) → slice_get p.grants k ≡ Some g → k < count
     → g.binding.namespace ≡ None
 
--- each pair of the line's requests for the targets from that place on is so: only repeats are left
+-- this holds for the targets from that place on: only repeats are left of the line
 abbrev pub HasRepeatsLeft : PolicyView → UniverseView → LineView → ℕ → Type 0
 HasRepeatsLeft p u l from = HasRepeatsFrom p u l from (length u.targets)
 
--- from a target's place on the line at one place up to another place there are only repeats: on
--- that line from there on, and on the lines after it
+-- only repeats are between a target's place on the line at `at` and the place `to`: on that line
+-- from the target on, and on the lines after it
 pub record PassesLines (p : PolicyView) (u : UniverseView) (at : Place) (from : ℕ)
     (to : Place) : Type 0 where
   pub line : LineView

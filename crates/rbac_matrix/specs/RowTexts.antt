@@ -1,4 +1,4 @@
--- What a row shows.
+-- The key and the binding that a row shows.
 use Rattle.std.specs.Prelude.{◌≡◌}
 use Rattle.rbac_terms.specs.Keys.{KeyTexts}
 use Rattle.rbac_model.specs.Universes.{RowView, cell_key}
@@ -15,7 +15,7 @@ texts_shown r = record {
   name = r.name.now;
 }
 
--- `r` shows the row `v` of the matrix, by its key and binding
+-- `r` shows the row `v` of the matrix: its key and its binding
 pub record Shows (r : Row) (v : RowView) : Type 0 where
   pub texts : texts_shown r ≡ cell_key v.cell
   pub binding : r.binding.now ≡ v.binding

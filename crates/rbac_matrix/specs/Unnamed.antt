@@ -1,4 +1,4 @@
--- Lines of namespaces where no RoleBinding names who asks.
+-- Lines of namespaces where no RoleBinding names the principal.
 use Rattle.std.specs.Prelude.{◌≡◌, ◌<◌, ◌≤◌, ◌⊎◌, ◌++◌, ℕ, List, Contains, Some, length, slice_get}
 use Rattle.std.specs.declared.cmp.Ordering.TheVariants.{Less}
 use Rattle.rbac_terms.specs.Text.{Text, text_cmp}
@@ -9,25 +9,26 @@ use Rattle.rbac_subjects.specs.Bound.{IsNamedIn}
 use Rattle.rbac_matrix.specs.Lines.{LineView, lines_from}
 use Rattle.rbac_matrix.specs.declared.line.Place.{Place}
 
--- a namespace is that one, or comes after it
+-- the namespace x is `from`, or comes after it
 abbrev pub IsFrom : Text → Text → Type 0
 IsFrom from x = (x ≡ from) ⊎ (text_cmp from x ≡ Less)
 
--- from the place on, up to the next principal, there are lines of who asks alone, in no namespace
--- before that one
+-- the place is one of this principal's, and neither its namespace nor a later one comes before
+-- `from`
 pub record BeginsFrom (u : UniverseView) (at : Place) (asking : Who) (from : Text) : Type 0 where
   pub principal : slice_get u.principals at.principal ≡ Some asking
   pub verb : at.verb < length u.verbs
   pub later : (j : ℕ) (x : Text) → at.namespace ≤ j → slice_get u.namespaces j ≡ Some x
       → IsFrom from x
 
--- a line of who asks, in no namespace before that one, and in none where a RoleBinding names them
+-- a line of this principal, in a namespace that doesn't come before `from`, where no RoleBinding
+-- names the principal
 pub record IsUnnamed (p : PolicyView) (asking : Who) (from : Text) (l : LineView) : Type 0 where
   pub who : l.who ≡ asking
   pub later : IsFrom from l.namespace
   pub unnamed : ¬ IsNamedIn p asking l.namespace
 
--- from one place up to another there are only such lines
+-- each line from `at` up to `to` is such a line
 pub record PassesUnnamed (p : PolicyView) (u : UniverseView) (asking : Who) (from : Text)
     (at to : Place) : Type 0 where
   pub between : List LineView

@@ -1,4 +1,4 @@
--- Sets of places of verbs, as words of bits.
+-- Sets of places of verbs, as words of 64 bits.
 use Rattle.std.specs.Prelude.{◌≡◌, ℕ, ◌*◌, ◌<◌, ◌≤◌, List, Some, length, slice_get}
 use Rattle.rbac_terms.specs.Text.{Text}
 use Rattle.rbac_terms.specs.Matching.{VerbOk}
@@ -9,11 +9,11 @@ use Rattle.rbac_model.specs.Graphs.{HasPlace}
 abbrev pub IsRoom : List ℕ → ℕ → Type 0
 IsRoom words place = place < 64 * length words
 
--- the set has room for the place, which isn't in
+-- the set has room for the place, but doesn't have it
 abbrev pub LacksPlace : List ℕ → ℕ → Type 0
 LacksPlace words place = IsRoom words place × (¬ HasPlace words place)
 
--- as far as the new set has room, it has the places of the old one and those of the rule's verbs
+-- as far as the new set has room, it has the places of the old set and of the rule's verbs
 pub record AddsVerbs (r : Rule) (verbs : List Text) (old new : List ℕ) : Type 0 where
   pub room : length new ≤ length old
   pub kept : (place : ℕ) → IsRoom new place → HasPlace old place → HasPlace new place
