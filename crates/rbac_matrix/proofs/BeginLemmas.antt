@@ -27,7 +27,7 @@ count_few P f one (g ∷ gs) (s ∷ seats) n le each (inr h) =
       | inr some ↦ absurd (h.0 (subst P (sym (same_Some g some.0 some.1)) some.2))
     ]
 
--- no more seats are filled than a line has cursors
+-- no more seats are filled than the line has cursors
 pub filled_cursors : (p : PolicyView) (l : LineView) (rs : List (List ℕ)) (from upto : ℕ) (seats : List Seat) (n : ℕ) → AreSeated p l rs from upto seats → IsCount (IsCursor l.who l.namespace l.verb) p.grants n → filled seats ≤ n
 unfolding filled
 filled_cursors p l rs from upto seats n seated h =

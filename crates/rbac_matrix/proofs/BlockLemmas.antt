@@ -1,4 +1,4 @@
--- blocks of a line's grants, and their least seats
+-- blocks of a line's grants, each with the least of its seats
 use Rattle.std.proofs.Common.{◌≡◌, ◌≢◌, ℕ, ◌+◌, ◌<◌, ◌≤◌, ◌⊎◌, List, [], ◌∷◌, ◌++◌, length, set, min, refl, ◌∙◌, sym, ap, arith, inl, inr, subst, get_or-set_other, get_or-set_same, length-set}
 use Rattle.std.specs.Prelude.{true, false, nat_lt}
 use Rattle.std.proofs.lemmas.Bool.{cases_lt, cases_eq, lt-ltb, le-ltb}
@@ -20,14 +20,14 @@ use Rattle.rbac_matrix.proofs.PassLemmas.{same_head}
 use Rattle.rbac_matrix.proofs.SeatLemmas.{Costs-less, Costs-none, Costs-set, Costs-then, seated_before, seated_stays, set_each}
 use Rattle.rbac_matrix.proofs.WalkLemmas.{cursor_bound}
 
--- no seat numbered from `start` up to `end` is at an entry
+-- no seat with a number from `start` up to `end` is at an entry
 abbrev pub AreIdle : List Seat → ℕ → ℕ → Type 0
 AreIdle seats start end = (k : ℕ) → start ≤ k → k < end → past_all ≤ (seat_at seats k).place
 
 abbrev pub AreOthersEmpty : PolicyView → LineView → List Seat → Type 0
 AreOthersEmpty p l seats = (k : ℕ) → k < length seats → IsCursorAt p l k ⊎ (seat_at seats k ≡ empty_seat)
 
--- grants that aren't bound have no seat
+-- if `IsBoundOn` holds for none of these grants, no seat of theirs is at an entry
 pub unbound_idle : (p : PolicyView) (l : LineView) (seats : List Seat) (start end : ℕ) → AreOthersEmpty p l seats → end ≤ length seats → ((k : ℕ) → start ≤ k → k < end → IsBoundOn p l k → ⊥) → AreIdle seats start end
 unbound_idle p l seats start end others within none k low high = elim (others k (omega arith)) [
   | inl c ↦ absurd (none k low high (cursor_bound p l k c))
@@ -48,7 +48,7 @@ others_about p l rs place end seats h k lt = elim (h.each k lt) [
 
 module _ (seats : List Seat) (start : ℕ) where
   module _ (n place number : ℕ) (h : IsLeastIn seats start n place number) where
-    -- over numbers without an entry
+    -- the least seat stays, if the seats of the numbers up to `end` are at no entry
     pub least_over : (end : ℕ) → n ≤ end → AreIdle seats n end → IsLeastIn seats start end place number
     least_over end le idle = record {
       bound = h.bound;
@@ -59,7 +59,7 @@ module _ (seats : List Seat) (start : ℕ) where
       ];
     }
 
-    -- one more seat comes first
+    -- the next seat comes before the least seat so far
     pub least_new : (here : ℕ) → start ≤ n → here ≡ (seat_at seats n).place → here ≤ past_all → here < place → IsLeastIn seats start (n + 1) here n
     least_new here low is top before = record {
       bound = top;
@@ -70,7 +70,7 @@ module _ (seats : List Seat) (start : ℕ) where
       ];
     }
 
-    -- one more seat doesn't
+    -- the next seat doesn't come before the least seat so far
     pub least_old : (here : ℕ) → here ≡ (seat_at seats n).place → place ≤ here → IsLeastIn seats start (n + 1) place number
     least_old here is after = record {
       bound = h.bound;
@@ -81,7 +81,7 @@ module _ (seats : List Seat) (start : ℕ) where
       ];
     }
 
--- the same seats have the same least one
+-- seats that are the same have the same least seat
 pub least_same : (seats more : List Seat) (start end place number : ℕ) → ((k : ℕ) → start ≤ k → k < end → seat_at more k ≡ seat_at seats k) → IsLeastIn seats start end place number → IsLeastIn more start end place number
 least_same seats more start end place number same h = record {
   bound = h.bound;
@@ -91,7 +91,7 @@ least_same seats more start end place number same h = record {
 
 -- ---- the least of several blocks
 
--- the least of the first `count` blocks
+-- the place and number are the least of the first `count` blocks
 pub record IsLeastBelow (bs : List Block) (count place number : ℕ) : Type 0 where
   pub bound : place ≤ past_all
   pub found : place < past_all → (i : ℕ) × (i < count) × ((block_at bs i).place ≡ place) × ((block_at bs i).number ≡ number) × ((j : ℕ) → j < count → (block_at bs j).place ≤ place → i ≤ j)
@@ -174,7 +174,7 @@ module _ (p : PolicyView) (l : LineView) (runs : Runs) (seats : List Seat) where
       ];
     }
 
-    -- a new block of one grant
+    -- the next grant begins a new block
     module _ (b : Block) (begins : b.walk.next ≡ n) (ends : b.end ≡ n + 1) (here : b.place ≡ (seat_at seats n).place) (own : b.number ≡ n) (real : b.place < past_all) (within : IsWithin p l runs b.walk) where
       new_one : IsBlock seats b
       new_one = rw (begins, ends, own) (record {
@@ -215,9 +215,9 @@ module _ (p : PolicyView) (l : LineView) (runs : Runs) (seats : List Seat) where
         ];
       }
 
-    -- one more grant in the last block
+    -- the next grant joins the last block
     module _ (last : ℕ) (is : last + 1 ≡ length bs) (place : ℕ) (here : place ≡ (seat_at seats n).place) (real : place < past_all) where
-      -- no seat between the last block and that grant is at an entry
+      -- no seat between the last block and this grant is at an entry
       gap : AreIdle seats (block_at bs last).end n
       gap k low high = elim (cases_lt (seat_at seats k).place past_all) [
         | inl lt ↦
@@ -289,7 +289,7 @@ module _ (p : PolicyView) (l : LineView) (runs : Runs) (seats : List Seat) where
             ];
       }
 
--- the walk back at the grant that it came to
+-- a walk may be set back to the grant that it came to
 pub back_within : (p : PolicyView) (l : LineView) (runs : Runs) (old w : Walk) (here : ℕ) → IsNextBound p l old w here → IsWithin p l runs w → IsWithin p l runs (back_at w here)
 back_within p l runs old w here step within = record {
   order = omega (arith, within.order, step.0.passed);
@@ -300,7 +300,7 @@ back_within p l runs old w here step within = record {
   later = within.later;
 }
 
--- ---- seats move on
+-- ---- seats that are at a place move on
 
 module _ (p : PolicyView) (l : LineView) (rs : List (List ℕ)) (place end : ℕ) where
   pub advances_none : (seats : List Seat) (m : ℕ) → Advances p l place end seats seats m m
@@ -320,7 +320,7 @@ module _ (p : PolicyView) (l : LineView) (rs : List (List ℕ)) (place end : ℕ
   }
 
   module _ (seats : List Seat) (h : AreSeatedAbout p l rs place end seats) where
-    -- a seat that is at the place is a cursor's, and moves on
+    -- if a seat at the place moves on, the seats are still about the place
     module _ (k : ℕ) (within : k < length seats) (low : k < end) (at : (seat_at seats k).place ≡ place) (real : place < past_all) (r : List ℕ) (is : r ≡ reach_at rs k) (s : Seat) (seated : IsSeated r ((seat_at seats k).place + 1) s) where
       pub move_about : AreSeatedAbout p l rs place end (set seats k s)
       move_about = record {
@@ -344,7 +344,7 @@ module _ (p : PolicyView) (l : LineView) (rs : List (List ℕ)) (place end : ℕ
         moved = λ j c lt there. inr (omega arith);
       }
 
-    -- a seat that can move can be moved
+    -- a seat at the place is seated there, so it can move on
     pub about_seated : (k : ℕ) → k < length seats → (seat_at seats k).place ≡ place → place < past_all → IsSeated (reach_at rs k) (seat_at seats k).place (seat_at seats k)
     about_seated k within at real = elim (h.each k within) [
       | inl c ↦ elim c.1 [
@@ -363,7 +363,7 @@ module _ (p : PolicyView) (l : LineView) (rs : List (List ℕ)) (place end : ℕ
       | inr e ↦ let empty : (seat_at seats k).place ≡ past_all = rw e.1 refl in omega arith
     ]
 
-    -- a block whose least seat isn't to be moved has none that is
+    -- if the least seat of a block isn't one to move on, no seat of the block is
     pub block_stays : (b : Block) → IsBlock seats b → b.end ≤ length seats → place < past_all → ((b.place ≡ place) × (b.number < end) → ⊥) → (k : ℕ) → IsOfBlock b k → k < end → (seat_at seats k).place ≢ place
     block_stays b own few real other k of lt at =
         let low = own.least k of.0 of.1 in
@@ -372,7 +372,7 @@ module _ (p : PolicyView) (l : LineView) (rs : List (List ℕ)) (place end : ℕ
         let same : b.place ≡ place = omega (arith, low.least, stands.2) in
         other (same, omega (arith, low.first (omega arith) (omega arith)))
 
-    -- what was passed, over grants that aren't bound, and over one more
+    -- passed seats that aren't at the place stay passed, when the walk skips unbound grants
     passed_on : (start next here : ℕ) → ((k : ℕ) → start ≤ k → k < next → k < end → (seat_at seats k).place ≢ place) → place < past_all → here ≤ length seats → ((k : ℕ) → next ≤ k → k < here → IsBoundOn p l k → ⊥) → (k : ℕ) → start ≤ k → k < here → k < end → (seat_at seats k).place ≢ place
     passed_on start next here passed real few none k low high lt at = elim (cases_lt k next) [
       | inl early ↦ passed k low early lt at
@@ -400,7 +400,7 @@ module _ (p : PolicyView) (l : LineView) (rs : List (List ℕ)) (place end : ℕ
             absurd (omega arith)
       ]
 
-    -- no seat is left to be moved
+    -- if no seat is left to move on, the seats are past the place
     module _ (none : (k : ℕ) → k < length seats → k < end → (seat_at seats k).place ≢ place) where
       pub about_ended : AreSeated p l rs place end seats
       about_ended = record {
@@ -429,16 +429,16 @@ module _ (p : PolicyView) (l : LineView) (rs : List (List ℕ)) (place end : ℕ
   pub advances_costs : (old seats : List Seat) (m m' : ℕ) → Advances p l place end old seats m m' → Costs 0 0 old seats m m'
   advances_costs old seats m m' f = Costs-less 0 f.gain old seats m m' f.costs
 
-  -- all blocks were passed
+  -- if no block has a seat left to move on, no seat is left
   pub all_passed : (runs : Runs) (seats : List Seat) (bs : List Block) → AreBlocks p l runs seats bs → place < past_all → ((i : ℕ) → i < length bs → (k : ℕ) → IsOfBlock (block_at bs i) k → k < end → (seat_at seats k).place ≢ place) → (k : ℕ) → k < length seats → k < end → (seat_at seats k).place ≢ place
   all_passed runs seats bs h real passed k within lt at =
       let of = h.all k within (omega arith) in
       passed of.0 of.1 k of.2 lt at
 
--- ---- seats move up to a place
+-- ---- seats that are before a place move up to it
 
 module _ (p : PolicyView) (l : LineView) (rs : List (List ℕ)) (place : ℕ) where
-  -- they are where the entries from an earlier place on begin
+  -- seats for the rows from an earlier place on are before the place, as `AreSeatedBefore` states
   pub before_seated : (from upto : ℕ) (seats : List Seat) → upto ≡ 0 → from ≤ place → AreSeated p l rs from upto seats → AreSeatedBefore p l rs place seats
   before_seated from upto seats none le h = record {
     count = h.count;
@@ -455,7 +455,8 @@ module _ (p : PolicyView) (l : LineView) (rs : List (List ℕ)) (place : ℕ) wh
       | inr e ↦ inr e.1
     ]
 
-    -- a seat that comes before the place is a cursor's, and moves on
+    -- a seat that is before the place belongs to a cursor; if it moves up, the seats are still
+    -- before the place
     module _ (k : ℕ) (within : k < length seats) (low : (seat_at seats k).place < place) (top : place ≤ past_all) where
       before_cursor : IsCursorAt p l k × IsSeatedBefore (reach_at rs k) place (seat_at seats k)
       before_cursor = elim (h.each k within) [
@@ -475,7 +476,7 @@ module _ (p : PolicyView) (l : LineView) (rs : List (List ℕ)) (place : ℕ) wh
             (inl (before_cursor.0, (place, omega arith, rw is at seated)));
       }
 
-    -- what was passed, over grants that aren't bound, and over one more
+    -- passed seats that aren't before the place stay passed, when the walk skips unbound grants
     before_on : (start next here : ℕ) → ((k : ℕ) → start ≤ k → k < next → place ≤ (seat_at seats k).place) → place ≤ past_all → here ≤ length seats → ((k : ℕ) → next ≤ k → k < here → IsBoundOn p l k → ⊥) → (k : ℕ) → start ≤ k → k < here → place ≤ (seat_at seats k).place
     before_on start next here passed top few none k low high = elim (cases_lt k next) [
       | inl early ↦ passed k low early
@@ -500,14 +501,14 @@ module _ (p : PolicyView) (l : LineView) (rs : List (List ℕ)) (place : ℕ) wh
             subst (λ (i : ℕ). place ≤ (seat_at (set seats here s) i).place) (sym e) (rw (get_or-set_same seats here s no_seat few) ahead)
       ]
 
-    -- a block whose least seat doesn't come before the place has none that does
+    -- if the least seat of a block isn't before the place, no seat of the block is
     pub block_ahead : (b : Block) → IsBlock seats b → (b.place < place → ⊥) → (k : ℕ) → IsOfBlock b k → place ≤ (seat_at seats k).place
     block_ahead b own ahead k of = elim (cases_lt b.place place) [
       | inl lt ↦ absurd (ahead lt)
       | inr ge ↦ omega (arith, (own.least k of.0 of.1).least)
     ]
 
-    -- no seat is left to be moved
+    -- if no block has a seat before the place, the seats are at the place
     pub before_ended : (runs : Runs) (bs : List Block) → AreBlocks p l runs seats bs → place ≤ past_all → ((i : ℕ) → i < length bs → (k : ℕ) → IsOfBlock (block_at bs i) k → place ≤ (seat_at seats k).place) → AreSeated p l rs place 0 seats
     before_ended runs bs are top passed = record {
       count = h.count;
@@ -522,7 +523,7 @@ module _ (p : PolicyView) (l : LineView) (rs : List (List ℕ)) (place : ℕ) wh
       ];
     }
 
--- ---- the seats of one block moved
+-- ---- the seats of one block have moved
 
 module _ (p : PolicyView) (l : LineView) (runs : Runs) (seats more : List Seat) (bs : List Block) (h : AreBlocks p l runs seats bs) (at : ℕ) (lt : at < length bs) (b : Block) (len : length more ≡ length seats) (same_walk : b.walk ≡ (block_at bs at).walk) (same_end : b.end ≡ (block_at bs at).end) (others : (k : ℕ) → (k < (block_at bs at).walk.next) ⊎ ((block_at bs at).end ≤ k) → seat_at more k ≡ seat_at seats k) where
   put_now : block_at (set bs at b) at ≡ b
@@ -588,7 +589,8 @@ module _ (p : PolicyView) (l : LineView) (runs : Runs) (seats more : List Seat) 
   pub put_of : (i : ℕ) → i < length bs → (k : ℕ) → IsOfBlock (block_at (set bs at b) i) k → IsOfBlock (block_at bs i) k
   put_of i few k of = (omega (arith, of.0, start_is i few), omega (arith, of.1, end_is i few))
 
-  -- what holds of the seats of the blocks before it, and of its own, holds of the next ones
+  -- if the seats of the blocks before this one have a property, and so have the seats of this
+  -- block, the seats of the blocks before the next one have it
   pub put_next : (Q : ℕ → Seat → Type 0) → ((i : ℕ) → i < at → (k : ℕ) → IsOfBlock (block_at bs i) k → Q k (seat_at seats k)) → ((k : ℕ) → IsOfBlock (block_at bs at) k → Q k (seat_at more k)) → (i : ℕ) → i < at + 1 → (k : ℕ) → IsOfBlock (block_at (set bs at b) i) k → Q k (seat_at more k)
   put_next Q before own i few k of = elim (cases_lt i at) [
     | inl low ↦

@@ -1,4 +1,4 @@
--- Whether a binding grants a request is decided, one way or the other.
+-- Each binding either grants a request or doesn't.
 use Rattle.std.proofs.Common.{◌≡◌, ℕ, List, [], ◌∷◌, sym, refl, arith, subst, suc, zero, ◌⊎◌, inl, inr}
 use Rattle.std.specs.Prelude.{Some, Any, slice_get}
 use Rattle.std.proofs.lemmas.Option.{same_Some}
@@ -34,7 +34,7 @@ module _ (h : Held) (held : IsHeld h) (who : Who) (namespace verb : Text) (t : W
   none_at b bs n none zero y e p = n (subst Granting (sym (same_Some b y e)) p)
   none_at b bs n none (suc k) y e p = none k y e p
 
-  -- the first of these bindings that grants, or that none does
+  -- either one of these bindings is the first that grants the request, or none grants it
   pub first : (bs : List Binding) (gs : List GrantView) → AreGrantsOf h bs gs
       → ((i : ℕ) × (b : Binding) × IsFirstAt Granting bs i b) ⊎ ((k : ℕ) (y : Binding) → slice_get bs k ≡ Some y → Granting y → ⊥)
   first [] gs are = inr (λ k y e p. cc)

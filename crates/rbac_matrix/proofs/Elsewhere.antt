@@ -1,4 +1,4 @@
--- what is allowed by a ClusterRoleBinding in a namespace is so in the whole cluster
+-- what a ClusterRoleBinding allows in a namespace, it allows in the whole cluster
 use Rattle.std.proofs.Common.{◌≡◌, List, [], ◌∷◌, Bool, true, false, Contains, ap, ◌∙◌, refl, inl, inr, arith, subst}
 use Rattle.std.specs.Prelude.{Option, Some, None, filter, not}
 use Rattle.rbac_terms.specs.Text.{Text}
@@ -10,7 +10,8 @@ use Rattle.rbac_universe.proofs.Flattened.{here, in_cons, there}
 use Rattle.rbac_matrix.specs.Every.{IsEvery}
 use Rattle.rbac_matrix.specs.Once.{RepeatsStandElsewhere, everywhere, is_repeat, repeats_at, without_repeats}
 
--- a ClusterRoleBinding is live everywhere, and nothing else is in the empty namespace
+-- a binding that is live in the empty namespace is a ClusterRoleBinding, so it is live in each
+-- namespace
 live_everywhere : (own : Option Text) (namespace : Text) (t : What) → Live own [] t → Live own namespace t
 live_everywhere None namespace t live = tt
 live_everywhere (Some own) namespace (Resource group text name) live = absurd (live.0 refl)

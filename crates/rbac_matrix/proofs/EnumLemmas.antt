@@ -1,4 +1,4 @@
--- from line to line
+-- how an enumeration goes from line to line
 use Rattle.std.proofs.Common.{◌≡◌, ℕ, zero, suc, ◌+◌, ◌<◌, ◌≤◌, List, [], ◌∷◌, ◌++◌, length, get_or, min, sum_by, refl, ap, ap₂, ◌∙◌, sym, arith, subst, inl, inr, append_assoc}
 use Rattle.std.specs.List.{flat_map}
 use Rattle.std.proofs.lemmas.Bool.{cases_lt}
@@ -24,7 +24,7 @@ use Rattle.rbac_matrix.proofs.LoopLemmas.{cursor_within}
 use Rattle.rbac_matrix.proofs.LinesLemmas.{onward_whole}
 use Rattle.rbac_matrix.proofs.TouchLemmas.{metered_end, metered_on, metered_skip}
 
--- ---- seats of which none is filled
+-- ---- lines without a filled seat
 
 none_of : (f : Seat → ℕ) (seats : List Seat) (k : ℕ) → sum_by f seats ≡ 0 → k < length seats → f (seat_at seats k) ≡ 0
 none_of f [] k e lt = absurd (omega arith)
@@ -85,7 +85,7 @@ module _ (h : Held) (u : UniverseView) where
   pub cells_at : (at : Place) (from : ℕ) (l : LineView) (ls : List LineView) → lines_from u at ≡ l ∷ ls → cells_left u at from ≡ line_cells_from u from l ++ flat_map (line_cells_from u 0) ls
   cells_at at from l ls e = ap (cells_of_lines u from) e
 
-  -- rows of a line are rows of what is left
+  -- the rows of a part of a line are the next rows that are left
   pub line_passes : (at : Place) (from to : ℕ) (l : LineView) (ls : List LineView) (rows : List RowView) → lines_from u at ≡ l ∷ ls → Passes h (line_cells_from u from l) (line_cells_from u to l) rows → Passes h (cells_left u at from) (cells_left u at to) rows
   line_passes at from to l ls rows e p =
       let all = passes_more h (line_cells_from u from l) (line_cells_from u to l) (flat_map (line_cells_from u 0) ls) rows p in
@@ -106,11 +106,11 @@ module _ (p : PolicyView) (u : UniverseView) (rs : List (List ℕ)) where
       let ends : EndsLine p u rs l 0 0 seats = ends_line p u rs l policy is reaches 0 0 seats seated few (λ k c. rw (empty.each k (omega (arith, seated.count, cursor_within p l k c))) (omega arith)) in
       rowless p u l policy ends.none
 
-  -- past the last line all places are alike
+  -- if no lines are left, the seats are ready for each target and number
   pub ready_past : (at : Place) (from upto : ℕ) (seats : List Seat) → IsReady p u rs at from upto seats → lines_from u at ≡ [] → (left above : ℕ) → IsReady p u rs at left above seats
   ready_past at from upto seats h e left above = record { settled = h.settled; count = h.count; seated = λ l ls line. absurd (no_head l ls (sym line ∙ e)); ended = h.ended }
 
-  -- the end of a line, and the lines that are skipped after it
+  -- if a line has no further hit, the search goes on after the lines that are skipped
   pub leads_on : (policy : IsPolicy p) (start : Place) (first last : ℕ) (at next to : Place) (from upto : ℕ) (l : LineView) → Leads p u start first last at from upto → lines_from u at ≡ l ∷ lines_from u next → HasNoHit p u l from upto → Skips p.held u next to → Leads p u start first last to 0 0
   leads_on policy start first last at next to from upto l (inl same) e none skips = inr (
     refl,
@@ -135,7 +135,7 @@ module _ (p : PolicyView) (u : UniverseView) (rs : List (List ℕ)) where
     },
   )
 
-  -- to a place on a line
+  -- from a place to the beginning of the search on a line, there is no row
   pub leads_pass : (policy : IsPolicy p) (at : Place) (from : ℕ) (to : Place) (begin low : ℕ) → Leads p u at from 0 to begin low → (low ≡ 0) × Passes p.held (cells_left u at from) (cells_left u to begin) []
   leads_pass policy at from to begin low (inl same) =
       (same.2, rw (same.0, same.1) (passes_none p.held (cells_left u at from)))
@@ -147,7 +147,7 @@ module _ (p : PolicyView) (u : UniverseView) (rs : List (List ℕ)) where
   )
 
   module _ (policy : IsPolicy p) (at : Place) (from : ℕ) (to : Place) (seats : List Seat) (place number : ℕ) (f : FindsCell p u rs at from 0 to seats place number) where
-    -- up to the next one of a line no row is left out
+    -- there is no row before the next hit
     pub comes_passes : Passes p.held (cells_left u at from) (cells_left u to place) []
     comes_passes =
         let way = leads_pass policy at from to f.begin f.low f.leads in
@@ -159,17 +159,17 @@ module _ (p : PolicyView) (u : UniverseView) (rs : List (List ℕ)) where
         let way = leads_pass policy at from to f.begin f.low f.leads in
         line_passes p.held u to place (place + 1) f.line f.others _ f.line_at (next_row p u f.line policy f.begin f.low place number f.found.next way.0)
 
-    -- the next one gives the next row of what is left
+    -- the next hit is the next row that is left
     pub cell_passes : Passes p.held (cells_left u at from) (cells_left u to (place + 1)) (row_on p u f.line place number f.found.next.hit ∷ [])
     cell_passes = passes_then p.held (cells_left u at from) (cells_left u to place) (cells_left u to (place + 1)) [] _ comes_passes here_passes
 
-  -- the end of all of them
+  -- if there is no further hit, no row is left
   pub all_passes : (policy : IsPolicy p) (at : Place) (from : ℕ) (to : Place) (seats : List Seat) → EndsAll p u rs at from 0 to seats → Passes p.held (cells_left u at from) [] []
   all_passes policy at from to seats e =
       let way = leads_pass policy at from to e.begin e.low e.leads in
       subst (λ (cs : List Cell). Passes p.held (cells_left u at from) cs []) (ap (cells_of_lines u e.begin) e.ended) way.1
 
-  -- the account over the end of a line, and the lines that are skipped
+  -- the meter's bounds still hold after a line ends and lines are skipped
   pub metered_over : (start : Place) (sought given : ℕ) (at next to : Place) (l : LineView) (from upto : ℕ) (old ended empty seats : List Seat) (m m' m'' : ℕ) → IsPolicy p → IsUniverse u → AreReaches p u rs → lines_from u at ≡ l ∷ lines_from u next → EndsLine p u rs l from upto ended → AreEmpty p empty → Costs 0 0 old ended m m' → Costs 0 0 empty seats m' m'' → Skips p.held u next to → IsMetered p u start sought at old given m → IsMetered p u start sought to seats given m''
   metered_over start sought given at next to l from upto old ended empty seats m m' m'' policy is reaches e ends none costs more skips h =
       let read : IsMetered p u start sought at ended given m' = metered_on p u start sought at old ended given m m' h costs in

@@ -22,7 +22,7 @@ use Rattle.rbac_matrix.proofs.HitLemmas.{from_then, from_zero, next_first, next_
 use Rattle.rbac_matrix.proofs.PairLemmas.{between, cell_split, first_in, next_binding, none_before, none_granted, others_in, pairs_append, pairs_zero, rowless_pairs, split_in, those_next}
 use Rattle.rbac_matrix.proofs.PassLemmas.{line_step, passes_then}
 
--- past pairs that aren't granted comes this one, and then the others
+-- `row` comes after pairs that aren't granted, and the pairs of `new` come after it
 pub record Splits (p : PolicyView) (old new : List RowView) (row : RowView) : Type 0 where
   pub skipped : List RowView
   pub whole : old ≡ skipped ++ row ∷ new
@@ -43,7 +43,7 @@ module _ (p : PolicyView) (policy : IsPolicy p) where
   abbrev bs : List Binding
   bs = p.held.bindings
 
-  -- no pair of these requests is granted
+  -- no binding grants one of these requests
   abbrev AreUngranted : List Cell → Type 0
   AreUngranted cs = (e : Cell) (y : Binding) → Contains cs e → Contains bs y → IsGranted p.held (pair_of e y) → ⊥
 
@@ -57,7 +57,7 @@ module _ (p : PolicyView) (policy : IsPolicy p) where
       let f = first_in bs d b r w in none f.0 f.1 f.2 f.3 (subst (IsGranted p.held) (sym f.4) granted)
 
   module _ (c : Cell) (cs : List Cell) (i : ℕ) (x : Binding) (at : slice_get bs i ≡ Some x) where
-    -- the first binding of a request that grants it, from one on
+    -- the first binding, from place b on, that grants this request
     here_split : (b : ℕ) → b ≤ i → ((j : ℕ) (y : Binding) → b ≤ j → j < i → slice_get bs j ≡ Some y → IsGranted p.held (pair_of c y) → ⊥)
         → Splits p (pairs_from bs b (c ∷ cs)) (pairs_from bs (i + 1) (c ∷ cs)) (pair_of c x)
     here_split b le none = record {
@@ -67,7 +67,7 @@ module _ (p : PolicyView) (policy : IsPolicy p) where
     }
 
     module _ (none : (j : ℕ) (y : Binding) → j < i → slice_get bs j ≡ Some y → IsGranted p.held (pair_of c y) → ⊥) where
-      -- after requests that aren't granted
+      -- the same if requests that no binding grants come before
       plain_split : (before : List Cell) → AreUngranted before → Splits p (pairs_of bs (before ++ c ∷ cs)) (pairs_from bs (i + 1) (c ∷ cs)) (pair_of c x)
       plain_split before ungranted =
           let s = here_split 0 (omega arith) (λ j y le lt. none j y lt) in
@@ -93,17 +93,18 @@ module _ (p : PolicyView) (policy : IsPolicy p) where
             ];
           }
 
-  -- requests that are passed without a row
+  -- no binding grants the requests that are passed without a row
   passed_ungranted : (cs ds : List Cell) (s : Passes p.held cs ds []) → AreUngranted s.between
   passed_ungranted cs ds s = rowless_pairs p policy s.between s.are
 
   module _ (u : UniverseView) where
-    -- the request at a target's place, and those after it
+    -- the requests that are left: the one for the target at `from`, and those after it
     pub cells_head : (at : Place) (from : ℕ) (l : LineView) (ls : List LineView) (t : Listed) → lines_from u at ≡ l ∷ ls → slice_get u.targets from ≡ Some t → cells_left u at from ≡ cell_of l t ∷ cells_left u at (from + 1)
     cells_head at from l ls t e read =
         cells_at p.held u at from l ls e ∙ ap (λ (cs : List Cell). cs ++ flat_map (line_cells_from u 0) ls) (line_step u l from t read) ∙ ap (λ (cs : List Cell). cell_of l t ∷ cs) (sym (cells_at p.held u at (from + 1) l ls e))
 
-    -- a line's rest, and the lines that are skipped
+    -- there is no row on the rest of a line without a further hit, and on the lines that are
+    -- skipped
     comes_pass : (at : Place) (from upto : ℕ) (to : Place) (k : PassesLine p u at from upto to) (later : ℕ) → HasNoHit p u k.line later 0 → Passes p.held (cells_left u at later) (cells_left u to 0) []
     comes_pass at from upto to k later none =
         passes_then p.held (cells_left u at later) (cells_left u k.next 0) (cells_left u to 0) [] []
@@ -125,7 +126,7 @@ module _ (p : PolicyView) (policy : IsPolicy p) where
       binding_at : (l : LineView) (h : IsHit p u l place number) → slice_get bs i ≡ Some h.grant.binding
       binding_at l h = of.2 ∙ ap (λ (g : GrantView). Some g.binding) (same_Some of.0 h.grant (sym of.1 ∙ h.grant_at))
 
-      -- on the same line
+      -- the next hit is on the same line
       module _ (at : Place) (l : LineView) (ls : List LineView) (line_at : lines_from u at ≡ l ∷ ls) (from upto b : ℕ) (below : AreBelow p upto b) (next : IsNextHit p u l from upto place number) where
         abbrev c : Cell
         c = cell_of l next.hit.target
@@ -136,7 +137,7 @@ module _ (p : PolicyView) (policy : IsPolicy p) where
         early : (j : ℕ) (y : Binding) → (from < place) ⊎ ((from ≡ place) × (b ≤ j)) → j < i → slice_get bs j ≡ Some y → IsGranted p.held (pair_of c y) → ⊥
         early j y onward lt bound = none_before p policy u l from upto b below place number start end i next of own ends place j next.hit.target y next.hit.target_at bound onward (inr (refl, lt))
 
-        -- up to its place
+        -- there is no row before the place of the hit
         to_place : (first : ℕ) → first ≤ place → ((q k : ℕ) → first ≤ q → IsNoEarlier q k from upto) → Passes p.held (cells_left u at first) (cells_left u at place) []
         to_place first le onward =
             line_passes p.held u at first place l ls [] line_at
@@ -159,7 +160,7 @@ module _ (p : PolicyView) (policy : IsPolicy p) where
               (next_binding p policy u l from upto b below place number start end i next of own ends e) (λ j y le less. early j y (inr (e, le)) less))
         ]
 
-      -- on a later line
+      -- the next hit is on a later line
       module _ (at : Place) (from upto b : ℕ) (below : AreBelow p upto b) (within : (b ≡ 0) ⊎ (from < length u.targets)) (to : Place) (l : LineView) (ls : List LineView) (line_at : lines_from u to ≡ l ∷ ls)
           (begin low : ℕ) (next : IsNextHit p u l begin low place number) (zero_from : begin ≡ 0) (zero_low : low ≡ 0) (k : PassesLine p u at from upto to) where
         late : (j : ℕ) (y : Binding) → j < i → slice_get bs j ≡ Some y → IsGranted p.held (pair_of (cell_of l next.hit.target) y) → ⊥
@@ -193,7 +194,7 @@ module _ (p : PolicyView) (policy : IsPolicy p) where
               (plain_split (cell_of l next.hit.target) (cells_left u to (place + 1)) i next.hit.grant.binding (binding_at l next.hit) late rest.between (passed_ungranted (cells_left u at from) (cells_left u to place) rest))
         ]
 
-      -- from one place to the next
+      -- the pair of the next hit is the first granted pair that is left
       pub cell_split_all : (rs : List (List ℕ)) (at : Place) (from upto b : ℕ) (to : Place) (seats : List Seat) → AreBelow p upto b → (b ≡ 0) ⊎ (from < length u.targets) → (f : FindsCell p u rs at from upto to seats place number)
           → Splits p (pairs_from bs b (cells_left u at from)) (pairs_from bs (i + 1) (cells_left u to place)) (row_on p u f.line place number f.found.next.hit)
       cell_split_all rs at from upto b to seats below within f = elim f.leads [
@@ -201,7 +202,7 @@ module _ (p : PolicyView) (policy : IsPolicy p) where
         | inr later ↦ later_split at from upto b below within to f.line f.others f.line_at f.begin f.low f.found.next later.0 later.1 later.2
       ]
 
-    -- where nothing more is allowed no pair is left
+    -- if no further hit is left on any line, no granted pair is left
     nothing_left : (at : Place) (from upto b : ℕ) (to : Place) → AreBelow p upto b → (b ≡ 0) ⊎ (from < length u.targets) → lines_from u to ≡ [] → PassesLine p u at from upto to
         → (r : RowView) → Contains (pairs_from bs b (cells_left u at from)) r → IsGranted p.held r → ⊥
     nothing_left at from upto b to below within ended k = elim (cases_lt from (length u.targets)) [
@@ -227,16 +228,16 @@ module _ (p : PolicyView) (policy : IsPolicy p) where
       | inr later ↦ those_empty (IsGranted p.held) (pairs_from bs b (cells_left u at from)) (nothing_left at from upto b to below within f.ended later.2)
     ]
 
--- past the last line none is left
+-- past the last line, no pair is left
 pub past_left : (p : PolicyView) (u : UniverseView) (at : Place) (from b : ℕ) → lines_from u at ≡ [] → AreThose (IsGranted p.held) (pairs_from p.held.bindings b (cells_left u at from)) []
 past_left p u at from b e = subst (λ (ls : List LineView). AreThose (IsGranted p.held) (pairs_from p.held.bindings b (cells_of_lines u from ls)) []) (sym e) refl
 
--- past a grant's binding
+-- after a grant's binding is passed
 module _ (p : PolicyView) (number place end : ℕ) (h : PassesBinding p number place end) where
   pub passes_own : number < end
   passes_own = ((h.own number h.at h.of).1 refl).1
 
-  -- the grants before its end are those of the bindings up to it
+  -- the grants below `end` are those of the bindings up to the grant's own
   pub passes_below : AreBelow p end place
   passes_below n at of = let e = h.ends n at of in (λ lt. let le = e.0 lt in omega (arith, h.is), λ lt. e.1 (omega (arith, h.is)))
 

@@ -43,16 +43,16 @@ use Rattle.rbac_matrix.proofs.RowLemmas.{head_below, tail_ascends}
 use Rattle.rbac_matrix.proofs.SearchLemmas.{drop_in, gap_absent, whats_up, in_take, take_in, target_found}
 use Rattle.rbac_matrix.proofs.ThoseLemmas.{those_sound, those_split}
 
--- ---- the rows from a start on
+-- ---- the rows after a mark
 
--- of rows those after the mark, where the first ones aren't and the others are
+-- if the rows of rs don't come after the mark, and those of ss do, the rows after the mark are ss
 after_split : (m : Option Mark) (rs ss : List RowView) → ((r : RowView) → Contains rs r → ComesAfter m r → ⊥) → ((r : RowView) → Contains ss r → ComesAfter m r) → every_after m (rs ++ ss) ≡ ss
 after_split None [] ss early late = refl
 after_split None (r ∷ rs) ss early late = absurd (early r (here r rs) tt)
 after_split (Some m) rs ss early late =
     filter-append (comes_after m.key m.binding) rs ss ∙ rw (filter_none (comes_after m.key m.binding) rs early, filter_all (comes_after m.key m.binding) ss late) refl
 
--- what stands before something in an ascending list is less
+-- in an ascending list, each element before x is less than x
 before_less : {X : Type 0} (name : X → List Text) (xs ys : List X) (x y : X) → IsAscendingBy name (xs ++ x ∷ ys) → Contains xs y → by_name name y x ≡ Less
 before_less name [] ys x y up w = absurd (omega (arith, w.1))
 before_less name (z ∷ xs) ys x y up w = elim (in_cons z xs y w) [
@@ -84,7 +84,7 @@ module _ (p : PolicyView) (policy : IsPolicy p) (u : UniverseView) (is : IsUnive
 
   -- ---- a granted row against a key
 
-  -- its key has the texts by which its request is in order
+  -- the key of a granted row has the texts by which its request is in order
   row_name : (r : RowView) → Contains (cells_of u) r.cell → G r → texts (cell_key r.cell) ≡ cell_name r.cell
   row_name r w granted = key_texts u r.cell is (in_cells u r.cell w) granted.0
 
@@ -98,7 +98,7 @@ module _ (p : PolicyView) (policy : IsPolicy p) (u : UniverseView) (is : IsUnive
   late_of k None r w granted after = after_row (Some k) r (row_name r w granted) after
   late_of k (Some b) r w granted after = (stands_past k b r).1 (inl (key_after k r w granted after))
 
-  -- ---- the start of a whole request
+  -- ---- a start with all bindings of a request
 
   early_of : (k : KeyTexts) (b : Option BindingName) → (b ≡ None) ⊎ HasNoRequest u k → (r : RowView) → Contains (cells_of u) r.cell → G r → (IsAfter (Some k) r.cell → ⊥) → comes_after k b r ≡ true → ⊥
   early_of k None absent r w granted none after = none (row_after (Some k) r (row_name r w granted) after)
@@ -108,7 +108,7 @@ module _ (p : PolicyView) (policy : IsPolicy p) (u : UniverseView) (is : IsUnive
     | inr same ↦ absent r.cell (in_cells u r.cell w) (sym (row_name r w granted) ∙ ap texts same.0)
   ]
 
-  -- a mark without a binding, or whose request isn't there
+  -- the mark has no binding, or no request of the universe has its key
   abbrev pub IsWhole : Option Mark → Type 0
   IsWhole None = Unit {0}
   IsWhole (Some m) = (m.binding ≡ None) ⊎ HasNoRequest u m.key
@@ -135,7 +135,7 @@ module _ (p : PolicyView) (policy : IsPolicy p) (u : UniverseView) (is : IsUnive
             whole_late m r (rw s.whole (Contains-append_right s.before left r.cell c)) granted (s.late r.cell c);
       }
 
-  -- ---- the start within a request
+  -- ---- a start within the bindings of a request
 
   module _ (k : KeyTexts) (at : Place) (here_at : ℕ) (own : IsOwnRequest u k at here_at) where
     place_there : here_at < length u.targets
@@ -260,7 +260,7 @@ module _ (p : PolicyView) (policy : IsPolicy p) (u : UniverseView) (is : IsUnive
     pub key_own : IsKeyStart u (Some k) at here_at
     key_own = record { first = here_at + 1; start = start_past_it; line = inl own_there; within = omega arith }
 
--- without its line or its target a request isn't there
+-- if the universe doesn't have the key's line or target, it has no request with the key
 pub no_line : (u : UniverseView) (k : KeyTexts) → HasNoLine u k → HasNoRequest u k
 no_line u k none c of e =
     let who : who_key c.who ≡ k.principal = cc in
@@ -285,17 +285,17 @@ own_settled_at u k at i own = own_settled u k at own.line
 pub key_whole : (u : UniverseView) (k : Option KeyTexts) (at : Place) (from : ℕ) → IsStart u k at from → BeginsOnLine u k at from → IsKeyStart u k at from
 key_whole u k at from s begins = record { first = from; start = s; line = begins; within = omega arith }
 
--- of a mark in its parts
+-- a mark is the same as the mark made of its key and its binding's name
 pub start_parts : (h : Held) (u : UniverseView) (m : Mark) (name : BindingName) (at : Place) (from b : ℕ) → m.binding ≡ Some name → IsEveryStart h u (Some (record { key = m.key; binding = Some name })) at from b → IsEveryStart h u (Some m) at from b
 start_parts h u m name at from b e s =
     let same : record { key = m.key; binding = Some name } ≡ m = ap (λ (n : Option BindingName). record { key = m.key; binding = n }) (sym e) in
     subst (λ (x : Mark). IsEveryStart h u (Some x) at from b) same s
 
--- no grant is below the first
+-- no grant has a number below 0
 pub below_none : (p : PolicyView) → AreBelow p 0 0
 below_none p n at of = (λ lt. absurd (omega arith), λ lt. absurd (omega arith))
 
--- ---- the bindings past a name
+-- ---- the bindings after a name
 
 module _ (xs : List Binding) (name : BindingName) where
   by_place : (i j : ℕ) (x : Binding) → i ≤ j → slice_get xs j ≡ Some x → Contains (drop i xs) x

@@ -24,7 +24,7 @@ use Rattle.rbac_matrix.proofs.TouchLemmas.{metered_more, reads_few, touched_spli
 use Rattle.rbac_matrix.proofs.LineLemmas.{all_past, mapped_at}
 
 module _ (h : Held) (cs ds : List Cell) (row : RowView) (p : Passes h cs ds (row ∷ [])) where
-  -- the row is the first of those that are left
+  -- the row is the first of the rows that are left
   pub row_given : (all : List RowView) → AreRowsOf h cs all ↔ ((others : List RowView) × (all ≡ row ∷ others) × AreRowsOf h ds others)
   row_given all = (
     λ are. let r = passes_left h cs ds (row ∷ []) all p are in (r.0, r.1, r.2),
@@ -49,30 +49,31 @@ own_namespace u is l (Url path) true w fits = absurd (is.urls path w)
 own_namespace u is l (Url path) false w (inl e) = cc
 own_namespace u is l (Url path) false w (inr e) = sym e
 
--- a request that fits has its own namespace in its key
+-- the key of a request that fits has the request's namespace
 pub fits_namespace : (u : UniverseView) → IsUniverse u → (l : LineView) (place : ℕ) (t : Listed) → slice_get u.targets place ≡ Some t → Fits (cell_of l t) → namespace_at l.namespace t.0 ≡ l.namespace
 fits_namespace u is l place t at fits = own_namespace u is l t.0 t.1 (place, slice_get_within u.targets place t at, get_or_from_slice_get u.targets place t t at) fits
 
 -- ---- the seats after a row
 
 module _ (p : PolicyView) (u : UniverseView) (rs : List (List ℕ)) (at : Place) (from upto : ℕ) (to : Place) (old new : List Seat) (place number end : ℕ) (f : FindsCell p u rs at from upto to old place number) where
-  -- they are those of its line, past its place for the grants below a number
+  -- the seats are those of the row's line, past the row's place for the grants below `end`
   pub ready_after : AreSeated p f.line rs place end new → IsReady p u rs to place end new
   ready_after seated = ready_line p u rs to place end new f.settled f.line f.others f.line_at seated
 
-  -- and one entry at least is passed
+  -- at least one entry was read for the row
   pub metered_after : (start : Place) (sought given m m' : ℕ) → IsMetered p u start sought to old given m → number < end
       → ((k : ℕ) → IsCursorAt p f.line k → k < end → (seat_at old k).place ≡ place → Costs 0 1 old new m m') → IsMetered p u start sought to new (given + 1) m'
   metered_after start sought given m m' h lt gains =
       metered_more p u start sought to old new given 1 m m' h (gains number f.found.cursor lt f.found.stands)
 
--- what a line gains, another that is equal to it gains
+-- a bound for the cursors of a line holds for those of an equal line
 pub gains_on : (p : PolicyView) (l m : LineView) (place end : ℕ) (old new : List Seat) (before after : ℕ) → l ≡ m
     → ((k : ℕ) → IsCursorAt p l k → k < end → (seat_at old k).place ≡ place → Costs 0 1 old new before after)
     → (k : ℕ) → IsCursorAt p m k → k < end → (seat_at old k).place ≡ place → Costs 0 1 old new before after
 gains_on p l m place end old new before after e gains k c = gains k (subst (λ (x : LineView). IsCursorAt p x k) (sym e) c)
 
--- past a place for all grants is at the next one
+-- if the grants below `end` are past a place, and these are all grants, the seats are those for the
+-- next place
 pub ready_next : (p : PolicyView) (u : UniverseView) (rs : List (List ℕ)) (at : Place) (place end : ℕ) (seats : List Seat) → end ≡ length p.grants → IsReady p u rs at place end seats → IsReady p u rs at (place + 1) 0 seats
 ready_next p u rs at place end seats all h = record {
   settled = h.settled;

@@ -1,4 +1,4 @@
--- what is allowed on a line, by place and number of a grant, and the rows that it gives
+-- the hits of a line, by place and grant number, and the rows that they give
 use Rattle.std.proofs.Common.{◌≡◌, ℕ, ◌+◌, ◌-◌, ◌<◌, ◌≤◌, List, [], ◌∷◌, length, refl, ap, ◌∙◌, arith, subst, inl, inr}
 use Rattle.std.specs.Prelude.{Some, slice_get}
 use Rattle.std.proofs.lemmas.Bool.{cases_lt}
@@ -23,7 +23,7 @@ from_then q k place number from upto (inl a) (inr b) = inl (omega (arith, b.0))
 from_then q k place number from upto (inr a) (inl b) = inl (omega (arith, a.0))
 from_then q k place number from upto (inr a) (inr b) = inr (omega (arith, a.0, b.0), omega (arith, a.1, b.1))
 
--- past a place
+-- a later place isn't before the next place
 pub from_next : (q k place : ℕ) → place < q → IsNoEarlier q k (place + 1) 0
 from_next q k place lt = elim (cases_lt (place + 1) q) [
   | inl more ↦ inl more
@@ -40,7 +40,7 @@ from_zero q k from upto e le = elim (cases_lt from q) [
 ]
 
 module _ (p : PolicyView) (u : UniverseView) (l : LineView) (policy : IsPolicy p) where
-  -- a row is of something that is allowed
+  -- each row has a hit
   pub row_hit : (place : ℕ) (t : Listed) (b : Binding) → slice_get u.targets place ≡ Some t → HasRow p.held (cell_of l t) b → (k : ℕ) × IsHit p u l place k
   row_hit place t b at has =
       let first = has.1 in
@@ -57,7 +57,7 @@ module _ (p : PolicyView) (u : UniverseView) (l : LineView) (policy : IsPolicy p
         },
       )
 
-  -- the first at its place gives the row
+  -- the first hit at its place gives the row
   pub hit_row : (place number : ℕ) (h : IsHit p u l place number) → ((k : ℕ) → k < number → IsHit p u l place k → ⊥) → HasRow p.held (cell_of l h.target) h.grant.binding
   hit_row place number h none = (
     h.fits,
@@ -68,7 +68,7 @@ module _ (p : PolicyView) (u : UniverseView) (l : LineView) (policy : IsPolicy p
     }),
   )
 
-  -- where nothing is allowed there is no row
+  -- without a hit there is no row
   pub passes_to : (from to : ℕ) → from ≤ to → to ≤ length u.targets → ((q k : ℕ) → IsHit p u l q k → from ≤ q → q < to → ⊥) → Passes p.held (line_cells_from u from l) (line_cells_from u to l) []
   passes_to from to low high none =
       let e : from + (to - from) ≡ to = omega arith in
@@ -91,18 +91,18 @@ module _ (p : PolicyView) (u : UniverseView) (l : LineView) (policy : IsPolicy p
     pub next_onward : from ≤ place
     next_onward = elim next.onward [ inl lt ↦ omega arith | inr same ↦ omega (arith, same.0) ]
 
-    -- nothing is allowed before it
+    -- no hit is before the place of the next one
     pub next_first : (q k : ℕ) → IsHit p u l q k → IsNoEarlier q k from upto → q < place → ⊥
     next_first q k h f lt = elim (next.first q k h f) [ inl above ↦ omega arith | inr same ↦ omega (arith, same.0) ]
 
   module _ (from upto place number : ℕ) (next : IsNextHit p u l from upto place number) (zero : upto ≡ 0) where
-    -- before the next one there is no row
+    -- there is no row before the place of the next hit
     pub next_before : Passes p.held (line_cells_from u from l) (line_cells_from u place l) []
     next_before =
         passes_to from place (next_onward from upto place number next) (let w = next_within from upto place number next in omega arith)
         (λ q k h ge lt. next_first from upto place number next q k h (from_zero q k from upto zero ge) lt)
 
-    -- and it gives a row
+    -- the next hit gives a row
     pub next_row : Passes p.held (line_cells_from u place l) (line_cells_from u (place + 1) l) (row_on p u l place number next.hit ∷ [])
     next_row =
         row_passes u l p.held place next.hit.target next.hit.grant.binding next.hit.target_at

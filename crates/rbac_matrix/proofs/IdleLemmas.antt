@@ -1,4 +1,4 @@
--- lines of somebody whose grants are live nowhere, or not in a namespace
+-- lines of a principal whose grants are live nowhere, or not in a namespace
 use Rattle.std.proofs.Common.{◌≡◌, ℕ, ◌+◌, ◌<◌, List, [], length, length-append, arith, ◌∷◌, ◌++◌, drop, map, refl, ap, ◌∙◌, sym, append_assoc, subst}
 use Rattle.std.specs.List.{flat_map}
 use Rattle.std.proofs.lemmas.Grind.{flat_map-append}
@@ -19,7 +19,7 @@ use Rattle.rbac_matrix.proofs.WalkLemmas.{cursor_bound}
 cursor_named : (p : PolicyView) (l : LineView) (k : ℕ) → IsCursorAt p l k → IsNamedBy p l.who k
 cursor_named p l k c = (c.grant, c.at, c.is.1)
 
--- whatever the verb
+-- whether a grant is bound doesn't depend on the verb
 pub bound_alike : (p : PolicyView) (l : LineView) (verb : Text) (k : ℕ) → IsBoundOn p (line l.who l.namespace verb) k → IsBoundOn p l k
 unfolding IsBoundOn
 bound_alike p l verb k b = b
@@ -45,7 +45,7 @@ module _ (h : Held) (u : UniverseView) where
   rowless_onward f g first whole [] = refl
   rowless_onward f g first whole (x ∷ xs) = rowless_both (f x) (flat_map g xs) (first x) (rowless_flat g whole xs)
 
--- what is passed where the lines of a namespace, or of somebody, are skipped
+-- the lines that are passed where a namespace or a principal is skipped
 module _ (u : UniverseView) (at : Place) (l : LineView) (here : IsLineAt u at l) where
   pub namespace_over : lines_from u at ≡ verb_lines u l.who at.verb l.namespace ++ lines_from u (place at.principal (at.namespace + 1) 0)
   namespace_over =
@@ -60,7 +60,7 @@ module _ (u : UniverseView) (at : Place) (l : LineView) (here : IsLineAt u at l)
   some_verbs : 0 < length (verb_lines u l.who at.verb l.namespace)
   some_verbs = let e = ap length (verbs_at u l.who l.namespace at.verb l.verb here.verb) in omega arith
 
-  -- a line at least is passed
+  -- at least one line is passed
   pub fewer_after_namespace : length (lines_from u (place at.principal (at.namespace + 1) 0)) < length (lines_from u at)
   fewer_after_namespace = omega (arith, some_verbs, ap length namespace_over, length-append (verb_lines u l.who at.verb l.namespace) (lines_from u (place at.principal (at.namespace + 1) 0)))
 
@@ -70,7 +70,7 @@ module _ (u : UniverseView) (at : Place) (l : LineView) (here : IsLineAt u at l)
       omega (arith, some_verbs, e, ap length principal_over, length-append (verb_lines u l.who at.verb l.namespace) (namespace_lines u (at.namespace + 1) 0 l.who), length-append (namespace_lines u at.namespace at.verb l.who) (lines_from u (place (at.principal + 1) 0 0)))
 
   module _ (p : PolicyView) (policy : IsPolicy p) where
-    -- in a namespace where none of somebody's grants may be live no verb has rows
+    -- if no grant of the principal may be live in the namespace, its lines there have no rows
     pub skips_namespace : ((k : ℕ) → IsBoundOn p l k → ⊥) → Skips p.held u at (place at.principal (at.namespace + 1) 0)
     skips_namespace idle = record {
       between = verb_lines u l.who at.verb l.namespace;
@@ -78,7 +78,7 @@ module _ (u : UniverseView) (at : Place) (l : LineView) (here : IsLineAt u at l)
       none = rowless_map p.held u (line l.who l.namespace) (λ verb. no_cursors p u (line l.who l.namespace verb) policy (λ k c. idle k (bound_alike p l verb k (cursor_bound p (line l.who l.namespace verb) k c)))) (drop at.verb u.verbs);
     }
 
-    -- somebody whom no binding names has no rows
+    -- if no binding names the principal, its lines have no rows
     pub skips_principal : ((k : ℕ) → IsNamedBy p l.who k → ⊥) → Skips p.held u at (place (at.principal + 1) 0 0)
     skips_principal unnamed =
         let verbs : (v : ℕ) (ns : Text) → Rowless p.held u (verb_lines u l.who v ns) = λ v ns.

@@ -1,4 +1,4 @@
--- pages of rows in order join
+-- how pages of rows join
 use Rattle.std.proofs.Common.{◌≡◌, ◌≢◌, ℕ, zero, suc, ◌<◌, Bool, true, false, List, [], ◌∷◌, ◌++◌, length, drop, take, refl, ap, ◌∙◌, sym, arith, Contains, ◌⊎◌, inl, inr, Less, Equal, Greater, Ordering, subst, get_or}
 use Rattle.std.specs.Prelude.{Option, Some, None, filter, nat_lt, ◌↔◌}
 use Rattle.std.specs.Ordering.{is_gt, ordering_reverse, ordering_then}
@@ -59,7 +59,7 @@ is_lt_from n m e = grind (arith, nat_tests)
 lt_is : (n m : ℕ) → n < m → nat_lt n m ≡ true
 lt_is n m l = grind (arith, nat_tests)
 
--- the rows kept are the first n of them and then what is left, which there is where there are more than n
+-- these rows are their first n and the others; there are others exactly if there are more than n
 joins : (n : ℕ) (kept rest : List RowView) → rest ≡ drop n kept → (kept ≡ take n kept ++ rest) × ((nat_lt n (length kept) ≡ true) ↔ (rest ≢ []))
 joins n kept rest e = (
   sym (take-append-drop n kept) ∙ ap (λ (others : List RowView). take n kept ++ others) (sym e),
@@ -69,7 +69,8 @@ joins n kept rest e = (
   ),
 )
 
--- rows in order of their names, and those that come after something: what is of a row itself comes before the rows past it
+-- rows in order of a name, each with a mark of its own; a row comes after another row's own mark
+-- exactly if its name is greater, and a row that follows one after a mark comes after this mark too
 module _ {M : Type 0} (name : RowView → List Text) (own : RowView → M) (is_after : M → RowView → Bool)
     (of_own : (a b : RowView) → is_after (own a) b ≡ is_gt (by_name name b a))
     (still : (m : M) (last row : RowView) → is_after m last ≡ true → by_name name last row ≡ Less → is_after m row ≡ true) where
@@ -88,11 +89,11 @@ module _ {M : Type 0} (name : RowView → List Text) (own : RowView → M) (is_a
   not_after_itself : (a : RowView) → is_after (own a) a ≡ false
   not_after_itself a = of_own a a ∙ ap is_gt (tied_itself (total name) a)
 
-  -- what is after a row that is after something is after it too
+  -- if a row comes after a mark, each row after this row's own mark does too
   still_after : (m : M) (last row : RowView) → is_after m last ≡ true → is_after (own last) row ≡ true → is_after m row ≡ true
   still_after m last row e f = still m last row e (turned_back row last (greater (by_name name row last) (sym (of_own last row) ∙ f)))
 
-  -- after the last row of a page come the rows that follow the page
+  -- the rows after the last row of a page are those that follow the page
   filter-last : (n : ℕ) (rows before : List RowView) (last : RowView) → IsAscendingBy name rows → take n rows ≡ before ++ last ∷ [] → filter (is_after (own last)) rows ≡ drop n rows
   filter-last zero rows [] last up e = cc
   filter-last zero rows (b ∷ before) last up e = cc
@@ -136,7 +137,7 @@ module _ {M : Type 0} (name : RowView → List Text) (own : RowView → M) (is_a
       let after : is_after m last ≡ true = rw w.2 at (filter_passes (is_after m) rows w.0 last w.1) in
       joins n kept (filter (is_after (own last)) rows) (sym (filter-filter m last rows after) ∙ filter-last n kept before last up e)
 
--- lists of texts: what is past what is past a third is past it
+-- if b is less than a, and greater than c, a is greater than c
 greater_then : (a b c : List Text) → slice_cmp text_cmp b a ≡ Less → slice_cmp text_cmp b c ≡ Greater → slice_cmp text_cmp a c ≡ Greater
 greater_then a b c less more =
     let order = total (λ (t : List Text). t) in
@@ -163,7 +164,7 @@ pages_join held u rows m (Some k) n before last e = join_after key_name key past
 abbrev past_mark : Mark → RowView → Bool
 past_mark m row = comes_after m.key m.binding row
 
--- what is past a row has no lesser key
+-- if a row's key is greater than k, the keys of the rows after it are too
 key_onward : (k : KeyTexts) (last row : RowView) → past_key k last ≡ true → by_name every_name last row ≡ Less → past_key k row ≡ true
 key_onward k last row e less =
     let whole = sym (cmp_append (texts (key last)) (texts (key row)) refl (binding_name last.binding) (binding_name row.binding)) ∙ less in
@@ -186,7 +187,7 @@ every_pages_join held u rows every (Some m) n before last e =
 
 -- ---- what comes after a mark with a binding, part by part
 
--- keys with the same texts are one
+-- keys with the same texts are the same key
 pub same_key : (a b : KeyTexts) → texts a ≡ texts b → a ≡ b
 same_key a b e =
     let of : List Text → KeyTexts = λ ts. record {

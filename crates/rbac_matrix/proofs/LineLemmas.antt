@@ -1,4 +1,4 @@
--- what seats say of the rows of a line
+-- how the seats of a line's cursors give its rows
 use Rattle.std.proofs.Common.{◌≡◌, ℕ, zero, suc, ◌+◌, ◌<◌, ◌≤◌, ◌⊎◌, List, [], ◌∷◌, length, get_or, map, ap, ◌∙◌, sym, arith, subst, inl, inr, Contains, Bool, true, false, IsTrue}
 use Rattle.std.specs.Prelude.{Option, Some, None, slice_get}
 use Rattle.std.specs.List.Sorted.{IsStrictlyIncreasing}
@@ -24,7 +24,7 @@ use Rattle.rbac_matrix.proofs.SeatLemmas.{stands_within}
 use Rattle.rbac_matrix.proofs.LoopLemmas.{cursor_within}
 use Rattle.rbac_matrix.proofs.HitLemmas.{from_next, from_then, from_zero, next_from, rowless}
 
--- ---- where a binding lives, for requests that fit
+-- ---- where a binding is live, for requests that fit
 
 live_for_some : (own : Option Text) (namespace : Text) (t : What) → Live own namespace t → LiveForSome own namespace
 live_for_some None namespace t live = live
@@ -45,7 +45,7 @@ seat_place_in r from s h real =
     let lt : s.position < length r = stands_within r from s h real in
     (s.position, lt, get_or_default r s.position s.place past_all lt ∙ sym h.place)
 
--- nothing of the reach lies between
+-- the reach has no place from `from` up to the seat's place
 none_between : (r : List ℕ) (from u : ℕ) (s : Seat) → IsStrictlyIncreasing r → IsSeated r from s → from ≤ u → u < s.place → Contains r u → ⊥
 none_between r from u s up h low high (k, lt, e) =
     let at : get_or r k 0 ≡ u = get_or_default r k 0 u lt ∙ e in
@@ -72,7 +72,7 @@ flag_at (x ∷ ts) (suc place) t b e f = flag_at ts place t b e f
 length_map_targets : (ts : List Listed) → length (map (λ (x : Listed). x.0) ts) ≡ length ts
 length_map_targets ts = length-map ts (λ (x : Listed). x.0)
 
--- what is allowed is so by a cursor
+-- the grant of a hit is a cursor
 pub hit_cursor : (p : PolicyView) (u : UniverseView) (l : LineView) (place k : ℕ) → IsHit p u l place k → IsCursorAt p l k
 hit_cursor p u l place k h = record { grant = h.grant; at = h.grant_at; is = (h.allows.2.0, h.allows.1, live_for_some h.grant.binding.namespace l.namespace h.target.0 h.allows.0) }
 
@@ -127,7 +127,7 @@ module _ (p : PolicyView) (u : UniverseView) (rs : List (List ℕ)) (l : LineVie
       let lt = slice_get_within (map (λ (x : Listed). x.0) u.targets) place m.0 m.1 in
       omega (arith, length_map_targets u.targets)
 
-  -- what is allowed stands in the reach, and what stands there is allowed where the request fits
+  -- a hit's place is in the reach of its grant; and each place there is a hit, if its request fits
   pub hit_in : (place k : ℕ) → IsHit p u l place k → Contains (reach_at rs k) place
   unfolding hit_cursor
   hit_in place k h = matches_in k place h.target (hit_cursor p u l place k h) h.target_at h.allows.2.1
@@ -151,12 +151,12 @@ module _ (p : PolicyView) (u : UniverseView) (rs : List (List ℕ)) (l : LineVie
       | inr e ↦ absurd (e.0 c)
     ]
 
-    -- where the entries of a grant are left
+    -- a hit from a place and a number on is among the remaining entries of its grant
     started : (q k : ℕ) → IsNoEarlier q k from upto → start_at from upto k ≤ q
     started q k (inl lt) = omega arith
     started q k (inr same) = omega (arith, same.0, same.1)
 
-    -- the seat of a cursor stands no further than what is allowed by it
+    -- the seat of a cursor is no further than the cursor's next hit
     pub seat_first : (q k : ℕ) → IsHit p u l q k → IsNoEarlier q k from upto → (seat_at seats k).place ≤ q
     seat_first q k h f =
         let c = hit_cursor p u l q k h in
@@ -202,7 +202,7 @@ module _ (p : PolicyView) (u : UniverseView) (rs : List (List ℕ)) (l : LineVie
         | inr ge ↦ inr (omega arith, omega arith)
       ]
 
-      -- nothing that is allowed comes before it
+      -- no hit comes before the least seat
       pub least_first : (q k : ℕ) → IsHit p u l q k → IsNoEarlier q k from upto → IsNoEarlier q k place number
       least_first q k h f =
           let order = least.least k (hit_cursor p u l q k h) in
@@ -226,7 +226,7 @@ module _ (p : PolicyView) (u : UniverseView) (rs : List (List ℕ)) (l : LineVie
         })
       ]
 
-      -- the seats stand at the place, or past it
+      -- the seats are those about the place: at it, or past it
       pub least_about : (end : ℕ) → number < end → AreSeatedAbout p l rs place end seats
       least_about end lt = record {
         count = seated.count;
@@ -236,7 +236,7 @@ module _ (p : PolicyView) (u : UniverseView) (rs : List (List ℕ)) (l : LineVie
         ];
       }
 
-      -- they are past it for the grants that come before, if these have passed it or have no entry there
+      -- the grants below `low` are past the place, since they have passed it or have no entry there
       here_each : (low k : ℕ) → low ≤ number → IsNoEarlier place low from upto → ComesFirst place number (seat_at seats k).place k → IsSeated (reach_at rs k) (start_at from upto k) (seat_at seats k)
           → IsSeated (reach_at rs k) (start_at place low k) (seat_at seats k)
       here_each low k le onward order s = record {
@@ -258,7 +258,7 @@ module _ (p : PolicyView) (u : UniverseView) (rs : List (List ℕ)) (l : LineVie
         ];
       }
 
-      -- a place that isn't past the first one isn't past a later one
+      -- if the least seat isn't before the first bound, it isn't before the current bound either
       from_here : (low first last : ℕ) → ((from ≡ first) × (upto ≡ last)) ⊎ (upto ≡ 0) → IsNoEarlier place low first last → IsNoEarlier place low from upto
       from_here low first last (inl same) onward = rw (same.0, same.1) onward
       from_here low first last (inr none) onward = from_zero place low from upto none least_onward
@@ -280,7 +280,7 @@ module _ (p : PolicyView) (u : UniverseView) (rs : List (List ℕ)) (l : LineVie
               here = λ low le later. seats_here low le (from_here low first last moved later);
             }
 
-        -- the request doesn't fit, and what is allowed comes after it
+        -- if the request at the least seat doesn't fit, each hit is at a later place
         pub passes_unfit : (IsTrue b ⊎ (l.namespace ≡ []) → ⊥) → (q k : ℕ) → IsHit p u l q k → IsNoEarlier q k first last → IsNoEarlier q k (place + 1) 0
         passes_unfit unfit q k h f = elim (least_first q k h (before q k h f)) [
           | inl lt ↦ from_next q k place lt
@@ -291,7 +291,8 @@ module _ (p : PolicyView) (u : UniverseView) (rs : List (List ℕ)) (l : LineVie
         pub unfit_onward : IsNoEarlier (place + 1) 0 first last
         unfit_onward = from_then (place + 1) 0 place number first last (next_from place number) (from_then place number from upto first last least_from onward)
 
--- past a place for all grants is at the next one
+-- if the grants below `end` are past a place, and these are all grants, the seats are those for the
+-- next place
 pub all_past : (p : PolicyView) (l : LineView) (rs : List (List ℕ)) (place end : ℕ) (seats : List Seat) → end ≡ length p.grants → AreSeated p l rs place end seats → AreSeated p l rs (place + 1) 0 seats
 all_past p l rs place end seats all h = record {
   count = h.count;
@@ -312,6 +313,6 @@ ends_from p u rs l first last from upto seats before h = record {
   past = h.past;
 }
 
--- the entries of reaches over a million targets, at most, are real places
+-- the entries of reaches are less than `past_all`, because there are at most a million targets
 pub are_real : (p : PolicyView) (u : UniverseView) (rs : List (List ℕ)) (l : LineView) → IsPolicy p → IsUniverse u → AreReaches p u rs → length u.targets ≤ 1000000 → AreReal rs
 are_real p u rs l policy is reaches few k i lt = omega (arith, entry_within p u rs l policy is reaches k i lt)

@@ -19,7 +19,7 @@ drop_at xs i x at =
     let e : get_or xs i x ≡ x = get_or_from_slice_get xs i x x at in
     rw (add-one, drop-cons xs i x lt, e) refl
 
--- what is read at a place of a list
+-- an element that is read at a place within a list is the element there
 pub read : {X : Type 0} (xs ys : List X) (i : ℕ) (x : X) → xs ≡ ys → i < length xs → ((d : X) → x ≡ get_or xs i d) → slice_get ys i ≡ Some x
 read {X} xs ys i x e lt at = ap (λ (l : List X). slice_get l i) (sym e) ∙ slice_get-get_or xs i x lt ∙ ap (λ (y : X). Some y) (sym (at x))
 
@@ -63,7 +63,7 @@ module _ (u : UniverseView) where
   unfolding lines_from
   lines_over p n v h = onward_over (namespace_lines u n v) (namespace_lines u 0 0) u.principals p h
 
-  -- a line, and those after it
+  -- the line at a place comes first, then the lines from the next verb on
   pub line_first : (p n v : ℕ) (who : Who) (ns verb : Text) → slice_get u.principals p ≡ Some who → slice_get u.namespaces n ≡ Some ns → slice_get u.verbs v ≡ Some verb → lines_from u (place p n v) ≡ line who ns verb ∷ lines_from u (place p n (v + 1))
   line_first p n v who ns verb a b c =
       let now : namespace_lines u n v who ≡ line who ns verb ∷ namespace_lines u n (v + 1) who =
@@ -73,7 +73,8 @@ module _ (u : UniverseView) where
   pub line_here : (at : Place) (l : LineView) → IsLineAt u at l → lines_from u at ≡ l ∷ lines_from u (next_verb at)
   line_here at l here = line_first at.principal at.namespace at.verb l.who l.namespace l.verb here.principal here.namespace here.verb
 
-  -- where the verbs are over the next namespace follows, and where the namespaces are over the next principal
+  -- past the last verb, the lines are those of the next namespace; past the last namespace, those
+  -- of the next principal
   pub after_verbs_same : (p n v : ℕ) → n < length u.namespaces → length u.verbs ≤ v → lines_from u (place p (n + 1) 0) ≡ lines_from u (place p n v)
   after_verbs_same p n v lt over = elim (cases_lt p (length u.principals)) [
     | inl within ↦

@@ -1,4 +1,4 @@
--- walks along the cursors of a line that change their seats
+-- how the walk along a line's cursors seats them
 use Rattle.std.proofs.Common.{◌≡◌, ◌≢◌, ℕ, ◌+◌, ◌*◌, ◌<◌, ◌≤◌, ◌⊎◌, List, [], ◌∷◌, length, get_or, set, refl, ◌∙◌, sym, arith, inl, inr, subst, length-set}
 use Rattle.std.proofs.lemmas.Bool.{cases_lt, cases_eq}
 use Rattle.std.proofs.lemmas.List.{get_or_default}
@@ -14,11 +14,12 @@ use Rattle.rbac_matrix.proofs.SeatLemmas.{Costs-none, Costs-set, filled_set, set
 pub cursor_within : (p : PolicyView) (l : LineView) (k : ℕ) → IsCursorAt p l k → k < length p.grants
 cursor_within p l k c = slice_get_within p.grants k c.grant c.at
 
--- a cursor's seat at `from`, or an empty one, to which the walk will come if it is a cursor's
+-- the seat is a cursor's, at its first entry from `from` on; or it is empty, and if it is a
+-- cursor's, the walk is still to come to it
 abbrev pub IsTakenAt : PolicyView → LineView → List (List ℕ) → ℕ → Walk → ℕ → Seat → Type 0
 IsTakenAt p l rs from w k s = (IsCursorAt p l k × IsSeated (reach_at rs k) (start_at from 0 k) s) ⊎ ((s ≡ empty_seat) × (IsCursorAt p l k → IsAhead p l w k))
 
--- some of the cursors have seats at `from`, and the walk will come to the others
+-- some of the cursors are seated, and the walk is still to come to the others
 pub record AreTaken (p : PolicyView) (l : LineView) (rs : List (List ℕ)) (from : ℕ) (w : Walk) (n : ℕ) (old seats : List Seat) (before after : ℕ) : Type 0 where
   pub count : length seats ≡ length p.grants
   pub each : (k : ℕ) → k < length seats → IsTakenAt p l rs from w k (seat_at seats k)
@@ -27,7 +28,7 @@ pub record AreTaken (p : PolicyView) (l : LineView) (rs : List (List ℕ)) (from
   pub started : from ≡ 0 → Costs 0 0 old seats before after
   pub sought : Costs (20 * n) 0 old seats before after
 
--- with no grants below, all are at the place
+-- with no grants below `upto`, the remaining entries begin at `from`
 plain : (r : List ℕ) (from k : ℕ) (s : Seat) → IsSeated r from s → IsSeated r (start_at from 0 k) s
 plain r from k s h = let e : start_at from 0 k ≡ from = omega arith in rw e h
 
@@ -35,7 +36,7 @@ no_places : (r : List ℕ) (from : ℕ) → length r ≤ 0 → from ≤ past_all
 no_places [] from h top = record { within = omega arith; place = refl; passed = λ k lt. absurd (omega arith); ahead = top }
 no_places (x ∷ r) from h top = absurd (omega arith)
 
--- a seat in a reach that has places isn't empty
+-- a seat in a reach that has entries isn't empty
 stands : (r : List ℕ) (from : ℕ) (s : Seat) → 0 < length r → ((i : ℕ) → i < length r → get_or r i 0 < past_all) → IsSeated r from s → 0 < s.position + stand_of s
 stands r from s some real seated = elim (cases_lt 0 s.position) [
   | inl lt ↦ omega arith
@@ -76,7 +77,7 @@ module _ (p : PolicyView) (l : LineView) (rs : List (List ℕ)) (from : ℕ) whe
       ],
     )
 
-    -- the seat was taken before, or its reach has no places
+    -- nothing changes if the seat was taken before, or its reach has no entries
     pub taken_keep : (r : List ℕ) → r ≡ reach_at rs k → from ≤ past_all → ((seat_at seats k ≡ empty_seat) × (0 < length r) → ⊥) → AreTaken p l rs from v n old seats before m
     taken_keep r is top kept = record {
       count = h.count;
@@ -117,14 +118,14 @@ module _ (p : PolicyView) (l : LineView) (rs : List (List ℕ)) (from : ℕ) whe
           sought = record { total = both.total; meter = both.meter; low = both.low; high = omega (arith, both.high) };
         }
 
--- a grant below `end` is past the place, and another at it
+-- a grant below `end` is seated past the place, and each other grant at it
 pub start_past : (r : List ℕ) (place end k : ℕ) (s : Seat) → k < end → IsSeated r (place + 1) s → IsSeated r (start_at place end k) s
 start_past r place end k s lt h = let e : start_at place end k ≡ place + 1 = omega arith in rw e h
 
 pub start_here : (r : List ℕ) (place end k : ℕ) (s : Seat) → end ≤ k → IsSeated r place s → IsSeated r (start_at place end k) s
 start_here r place end k s le h = let e : start_at place end k ≡ place = omega arith in rw e h
 
--- a seat that has a place is a cursor's
+-- a seat at an entry is a cursor's
 pub cursor_of_seat : (p : PolicyView) (l : LineView) (seats : List Seat) (k place : ℕ) → IsCursorAt p l k ⊎ (seat_at seats k ≡ empty_seat) → place ≡ (seat_at seats k).place → place < past_all → IsCursorAt p l k
 cursor_of_seat p l seats k place (inl c) at real = c
 cursor_of_seat p l seats k place (inr e) at real = let empty : (seat_at seats k).place ≡ past_all = rw e refl in absurd (omega arith)

@@ -1,4 +1,4 @@
--- where an enumeration is over, no others are left
+-- when an enumeration is over, no rows are left
 use Rattle.std.proofs.Common.{◌≡◌, List, [], ◌∷◌, length, ap, inl, inr, arith}
 use Rattle.rbac_model.specs.Universes.{RowView}
 use Rattle.rbac_matrix.specs.Enumeration.{AreLeft}

@@ -1,4 +1,4 @@
--- rows of every granting binding that are passed, of which all are repeats
+-- rows of every granting binding that are passed: all of them are repeats
 use Rattle.std.proofs.Common.{◌≡◌, ℕ, ◌+◌, ◌<◌, ◌≤◌, ◌⊎◌, List, [], ◌∷◌, Bool, true, false, length, refl, ap, ◌∙◌, sym, arith, subst, inl, inr}
 use Rattle.std.specs.Prelude.{◌↔◌, Some, slice_get}
 use Rattle.std.proofs.lemmas.Bool.{cases_lt}
@@ -24,7 +24,7 @@ use Rattle.rbac_matrix.proofs.OnceLemmas.{no_repeats, one_repeat}
 use Rattle.rbac_matrix.proofs.PairLemmas.{hit_granted, those_first}
 use Rattle.rbac_matrix.proofs.PassLemmas.{same_head}
 
--- the grants before the first one of a binding are those of the bindings before it
+-- the grants before the first grant of a binding are those of the bindings before it
 pub begins_below : (p : PolicyView) (number place start : ℕ) → BeginsBinding p number place start → start ≤ number → AreBelow p start place
 begins_below p number place start b le n i of =
     let own = b.own n i of in
@@ -46,7 +46,8 @@ begins_first p number place start b = ((b.own number place b.of).1 refl).0
 begins_passes : (p : PolicyView) (number place start : ℕ) (b : BeginsBinding p number place start) → PassesBinding p number (place + 1) b.end
 begins_passes p number place start b = record { at = place; start = start; of = b.of; own = b.own; ends = b.ends; is = refl }
 
--- a binding whose grants don't all come before a number has none of them before it
+-- if the grants below `upto` are those of some bindings, and a grant isn't below it, no grant of
+-- the same binding is
 pub begins_onward : (p : PolicyView) → IsPolicy p → (number place start upto b : ℕ) → BeginsBinding p number place start → AreBelow p upto b → upto ≤ number → upto ≤ start
 begins_onward p policy number place start upto b begins below le = elim (cases_lt start upto) [
   | inl lt ↦
@@ -63,7 +64,7 @@ begins_onward p policy number place start upto b begins below le = elim (cases_l
 ]
 
 module _ (s t : EveryRows) (policy : IsPolicy s.rows.index.now) (same : GoesOn s.rows t.rows) (below : AreBelow s.rows.index.now s.upto s.binding) (within : (s.binding ≡ 0) ⊎ (s.rows.from < length s.rows.universe.now.targets)) where
-  -- none is left
+  -- no row is left
   module _ (e : EndsAll s.rows.index.now s.rows.universe.now s.rows.reaches.now s.rows.at s.rows.from s.upto t.rows.at t.rows.seats.now) where
     before_none : AreEveryLeft s []
     unfolding AreEveryLeft
@@ -108,7 +109,7 @@ module _ (s t : EveryRows) (policy : IsPolicy s.rows.index.now) (same : GoesOn s
     abbrev row : RowView
     row = row_on p u f.line t.rows.from no f.found.next.hit
 
-    -- the pairs past the row
+    -- the pairs after the row
     abbrev others : List RowView
     others = pairs_from bs (t.binding + 1) (cells_left u t.rows.at t.rows.from)
 
@@ -127,7 +128,7 @@ module _ (s t : EveryRows) (policy : IsPolicy s.rows.index.now) (same : GoesOn s
     pub every_binding : t.binding < length t.rows.index.now.held.bindings
     every_binding = rw same.index (slice_get_within bs t.binding f.found.next.hit.grant.binding binding_here)
 
-    -- the row is the first of the pairs that are left
+    -- the row is the first pair that is left
     pairs_here_are : pairs_from bs t.binding (cells_left u t.rows.at t.rows.from) ≡ row ∷ others
     pairs_here_are = rw (cells_here, drop_at bs t.binding f.found.next.hit.grant.binding binding_here) refl
 
@@ -159,7 +160,7 @@ module _ (s t : EveryRows) (policy : IsPolicy s.rows.index.now) (same : GoesOn s
     pub every_grant : no < length t.rows.index.now.grants
     every_grant = rw same.index (slice_get_within p.grants no f.found.next.hit.grant f.found.next.hit.grant_at)
 
-    -- the seats are ready there
+    -- the seats are ready for the row's binding
     onward : IsNoEarlier t.rows.from t.upto f.begin f.low
     onward = elim f.found.next.onward [
       | inl lt ↦ inl lt
@@ -184,7 +185,7 @@ module _ (s t : EveryRows) (policy : IsPolicy s.rows.index.now) (same : GoesOn s
       unfolding pairs_left
       every_over_fewer = rw (on.index, on.universe, at, from, next, same.index, same.universe, pairs_here_are) (omega arith)
 
-    -- whether its row is a repeat
+    -- whether the row is a repeat
     module _ (is : IsUniverse u) (b : Bool) (told : (l : LineView) (ls : List LineView) (g : GrantView) → lines_from t.rows.universe.now t.rows.at ≡ l ∷ ls → slice_get t.rows.index.now.grants no ≡ Some g → b ≡ repeats_at l.namespace g.binding.namespace) where
       pub every_repeat : is_repeat row ≡ b
       every_repeat =

@@ -1,4 +1,4 @@
--- rows that are passed, of which all are repeats
+-- rows that are passed: all of them are repeats
 use Rattle.std.proofs.Common.{◌≡◌, ℕ, ◌+◌, ◌<◌, ◌≤◌, List, [], ◌∷◌, ◌++◌, Bool, true, false, All, length, length-append, refl, ap, ◌∙◌, sym, arith, append_assoc, subst}
 use Rattle.std.specs.Prelude.{Option, Some, not, slice_get}
 use Rattle.std.proofs.lemmas.List.Elements.{All-append, filter-append}
@@ -54,7 +54,7 @@ some_then A B C p q = record {
   );
 }
 
--- the rows that are no repeats stay
+-- passing repeats leaves the rows that aren't repeats
 pub passes_repeats : (A B : Lists) → PassesSome A B → StaysFirst B → PassesRepeats A B
 passes_repeats A B p first = record {
   some = p;
@@ -76,7 +76,7 @@ goes_then s t v p q = record {
   sought = q.sought ∙ p.sought;
 }
 
--- which line is known to be mixed says nothing of the rows
+-- which line is known to be mixed has no influence on the rows
 pub mixed_way : (s : Rows) (mixed : Option Place) (upto : ℕ) → IsUnderWay s upto → IsUnderWay (record s { mixed = mixed }) upto
 mixed_way s mixed upto way = record {
   policy = way.policy;
@@ -112,12 +112,12 @@ module _ (s t : Rows) (same : GoesOn s t) (rows : List RowView) (p : Passes s.in
   unfolding requests_left
   passes_few = omega (arith, ap length p.whole, length-append p.between (cells t))
 
--- a row that is passed is a request less
+-- after a row is passed, fewer requests are left
 pub passes_fewer : (s t : Rows) (row : RowView) → Passes s.index.now.held (cells s) (cells t) (row ∷ []) → requests_left t < requests_left s
 unfolding requests_left
 passes_fewer s t row p = fewer_left s.index.now.held (cells s) (cells t) row p
 
--- the first row that is left
+-- if the next row isn't a repeat, it stays the first row that is left
 pub first_is : (h : Held) (cs ds : List Cell) (row : RowView) → Passes h cs ds (row ∷ []) → is_repeat row ≡ false → StaysFirst (AreRowsOf h cs)
 first_is h cs ds row p e other others are =
     let w = passes_left h cs ds (row ∷ []) (other ∷ others) p are in
@@ -127,7 +127,7 @@ pub none_first : (h : Held) (cs : List Cell) → AreRowsOf h cs [] → StaysFirs
 none_first h cs none other others are = absurd (no_head other others (rows_one h cs (other ∷ others) [] are none))
 
 module _ (s t : Rows) (policy : IsPolicy s.index.now) (same : GoesOn s t) where
-  -- none is left
+  -- no row is left
   module _ (e : EndsAll s.index.now s.universe.now s.reaches.now s.at s.from 0 t.at t.seats.now) where
     ended_cells : cells t ≡ []
     ended_cells = rw same.universe (ap (cells_of_lines s.universe.now t.from) e.ended)
@@ -152,7 +152,7 @@ module _ (s t : Rows) (policy : IsPolicy s.index.now) (same : GoesOn s t) where
     pub come_grant : no < length t.index.now.grants
     come_grant = rw same.index (slice_get_within s.index.now.grants no f.found.next.hit.grant f.found.next.hit.grant_at)
 
-    -- the seats are ready there
+    -- the seats are ready for the row
     pub come_ready : IsReady s.index.now s.universe.now s.reaches.now t.at t.from 0 t.seats.now
     come_ready =
         let low = (leads_pass s.index.now s.universe.now s.reaches.now policy s.at s.from t.at f.begin f.low f.leads).0 in
@@ -163,7 +163,7 @@ module _ (s t : Rows) (policy : IsPolicy s.index.now) (same : GoesOn s t) where
       pub come_over : Passes t.index.now.held (cells t) (cells v) (row ∷ [])
       come_over = rw (on.universe, same.universe, same.index, at, next, from) (here_passes s.index.now s.universe.now s.reaches.now policy s.at s.from t.at t.seats.now place no f)
 
-    -- whether its row is a repeat
+    -- whether the row is a repeat
     module _ (is : IsUniverse s.universe.now) (b : Bool) (told : (l : LineView) (ls : List LineView) (g : GrantView) → lines_from t.universe.now t.at ≡ l ∷ ls → slice_get t.index.now.grants no ≡ Some g → b ≡ repeats_at l.namespace g.binding.namespace) where
       pub come_repeat : is_repeat row ≡ b
       come_repeat =

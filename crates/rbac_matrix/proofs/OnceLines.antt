@@ -50,7 +50,7 @@ module _ (p : PolicyView) (policy : IsPolicy p) (u : UniverseView) (at to : Plac
       let t = in_drop u.targets n m.0 m.1 in
       subst (λ (d : Cell). is_repeat (pair_of d b) ≡ true) m.2 (left t.0 t.1 (slice_get_within u.targets t.0 m.0 t.2) bound.0 m.0 b t.2 (slice_get-get_or p.held.bindings bound.0 b bound.1 ∙ ap (λ (x : Binding). Some x) bound.2) (subst (λ (d : Cell). IsGranted p.held (pair_of d b)) (sym m.2) granted))
 
-  -- each of their pairs that is granted is a repeat
+  -- if a binding grants one of these requests, their pair is a repeat
   pub between_repeats : (c : Cell) (b : Binding) → Contains between_cells c → Contains p.held.bindings b → IsGranted p.held (pair_of c b) → is_repeat (pair_of c b) ≡ true
   between_repeats c b w bound granted = elim (Contains-append_cases (line_cells_from u from q.line) (flat_map (line_cells_from u 0) q.more) c w) [
     | inl v ↦ on_line from q.line q.rest c b v bound granted
@@ -77,7 +77,7 @@ module _ (p : PolicyView) (policy : IsPolicy p) (u : UniverseView) (at to : Plac
       let first = s.1.1 in
       between_repeats r.cell r.binding s.0 (first.0, slice_get_within p.held.bindings first.0 r.binding first.1.here, get_or_from_slice_get p.held.bindings first.0 r.binding r.binding first.1.here) (s.1.0, first.1.holds)
 
-  -- the rows of these requests are passed
+  -- the rows of these requests are passed, and are repeats
   pub between_passes : (rs : List RowView) × Passes p.held (cells_left u at from) (cells_left u to 0) rs × AreRepeats rs
   between_passes = (rows, record { between = between_cells; whole = between_whole; are = are_rows }, λ i d lt. row_is (get_or rows i d) (Contains-get_or rows i d lt))
 

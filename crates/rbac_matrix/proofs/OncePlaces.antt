@@ -1,4 +1,4 @@
--- the rows of a part of a line that has only repeats
+-- the rows of a part of a line where all rows are repeats
 use Rattle.std.proofs.Common.{◌≡◌, ℕ, zero, suc, ◌+◌, ◌-◌, ◌<◌, ◌≤◌, List, [], ◌∷◌, ◌++◌, true, Contains, get_or, length, length-append, ap, sym, arith, subst, inl, inr}
 use Rattle.std.specs.List.{flat_map}
 use Rattle.std.proofs.lemmas.List.Elements.{All-append, Contains-get_or}
@@ -20,14 +20,15 @@ use Rattle.rbac_matrix.proofs.RowLemmas.{rows_sound}
 use Rattle.rbac_matrix.proofs.SomeMatrix.{some_rows}
 
 module _ (p : PolicyView) (policy : IsPolicy p) (u : UniverseView) (l : LineView) where
-  -- the rows of these requests are passed, with so many requests
+  -- the rows for the targets from one place up to another are passed, with `n` requests; all are
+  -- repeats
   pub record PassesTo (from to n : ℕ) : Type 0 where
     pub rows : List RowView
     pub passes : Passes p.held (line_cells_from u from l) (line_cells_from u to l) rows
     pub repeats : AreRepeats rows
     pub count : length (line_cells_from u to l) + n ≡ length (line_cells_from u from l)
 
-  -- one request
+  -- one request is passed
   over_one : (from : ℕ) → from < length u.targets → HasRepeatsAt p u l from → PassesTo from (from + 1) 1
   over_one from lt repeats =
       let t = read_some u.targets from lt in
@@ -49,7 +50,7 @@ module _ (p : PolicyView) (policy : IsPolicy p) (u : UniverseView) (l : LineView
         count = omega (arith, ap length step);
       }
 
-  -- so many requests
+  -- `n` requests are passed
   over_more : (n from to : ℕ) → from + n ≡ to → to ≤ length u.targets → HasRepeatsFrom p u l from to → PassesTo from to n
   over_more zero from to e few repeats = let same : to ≡ from = omega arith in rw same (record {
     rows = [];
@@ -77,7 +78,7 @@ module _ (t v : Rows) (policy : IsPolicy t.index.now) (on : GoesOn t v) (l : Lin
   places_passes : (rs : List RowView) × Passes t.index.now.held (cells t) (cells v) rs × AreRepeats rs
   places_passes = rw (on.universe, at) over_all
 
-  -- the rows of the requests up to a later place of the line are passed, and are repeats
+  -- the rows for the targets up to a later place of the line are passed, and are repeats
   pub places_some : PassesSome (AreLeft t) (AreLeft v)
   places_some = left_passes t v on places_passes.0 places_passes.1 places_passes.2
 

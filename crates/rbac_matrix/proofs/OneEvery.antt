@@ -1,4 +1,5 @@
--- the rows of every granting binding are the granted pairs of requests and bindings; they are there, and are one list
+-- the rows of every granting binding are the granted pairs of requests and bindings; they exist,
+-- and are one list
 use Rattle.std.proofs.Common.{◌≡◌, ℕ, ◌<◌, List, [], ◌∷◌, ◌++◌, length, get_or, Contains, Less, ap, ap₂, ◌∙◌, refl, arith, subst, inl, inr}
 use Rattle.std.specs.Ordering.{ordering_then}
 use Rattle.std.specs.Cmp.Lexicographic.{slice_cmp}
@@ -37,7 +38,7 @@ in_pairs bs cs r w =
 pub pairs_in : (bs : List Binding) (cs : List Cell) (r : RowView) → Contains cs r.cell → Contains bs r.binding → Contains (pairs_of bs cs) r
 pairs_in bs cs r w v = flat_contains (cell_pairs bs) cs r.cell r w (map_contains (pair_of r.cell) bs r.binding v)
 
--- by the texts of the request, and then those of the binding
+-- pairs are in order of the texts of their request, then of the texts of their binding
 abbrev pub pair_name : RowView → List Text
 pair_name r = cell_name r.cell ++ binding_name r.binding
 
@@ -70,7 +71,7 @@ module _ (h : Held) (u : UniverseView) (held : IsHeld h) (is : IsUniverse u) whe
   in_order : IsAscendingBy pair_name pairs
   in_order = pairs_ascend h.bindings (cells_of u) held.bindings (cells_ascend u is)
 
-  -- rows of requests that fit are in order of one name where they are of the other
+  -- if a row's request fits, the row has the same texts in both orders
   same_name : (r : RowView) → IsCellOf u r.cell → Fits r.cell → every_name r ≡ pair_name r
   same_name r of fits = ap (λ (ts : List Text). ts ++ binding_name r.binding) (key_texts u r.cell is of fits)
 
@@ -94,7 +95,7 @@ module _ (h : Held) (u : UniverseView) (held : IsHeld h) (is : IsUniverse u) whe
         );
       }
 
--- ---- they are there
+-- ---- the rows exist
 
 rules_of_each : (h : Held) (bs : List Binding) (gs : List GrantView) → AreGrantsOf h bs gs → (b : Binding) → Contains bs b → (rules : List SourcedRule) × AreRulesFor h b rules
 rules_of_each h [] gs are b w = absurd (omega (arith, w.1))

@@ -1,4 +1,4 @@
--- the matrix is the rows of the requests of its universe, and it is one
+-- the matrix has the rows of its universe's requests, and is one list
 use Rattle.std.proofs.Common.{◌≡◌, ℕ, ◌<◌, List, length, get_or, Contains, IsTrue, Less, Ordering, sym, ap₂, ◌∙◌, refl, arith}
 use Rattle.std.specs.Ordering.{is_lt}
 use Rattle.std.specs.Cmp.Lexicographic.{slice_cmp}
@@ -31,7 +31,7 @@ one_matrix h u rows others m n =
     one_list key_name rows others (by_keys h u rows m) (by_keys h u others n) (λ r w. (n.exact r).1 ((m.exact r).0 w)) (λ r w. (m.exact r).1 ((n.exact r).0 w))
 
 module _ (h : Held) (u : UniverseView) (is : IsUniverse u) (rows : List RowView) where
-  -- rows of requests that fit are in order of keys where they are in order of names
+  -- rows whose requests fit compare by their keys as their requests compare by their texts
   same_order : ((r : RowView) → Contains rows r → IsCellOf u r.cell × Fits r.cell) → (i j : ℕ) (d : RowView) → i < j → j < length rows
       → slice_cmp text_cmp (key_name (get_or rows i d)) (key_name (get_or rows j d)) ≡ by_name (λ (r : RowView). cell_name r.cell) (get_or rows i d) (get_or rows j d)
   same_order fit i j d lt l =

@@ -21,7 +21,7 @@ greater Greater e = refl
 pub is_greater : (o : Ordering) → o ≡ Greater → is_gt o ≡ true
 is_greater o e = rw e refl
 
--- the first text decides, unless it ties
+-- the first text decides, unless both are equal
 pub first_less : (o p : Ordering) → o ≡ Less → ordering_then o p ≡ Less
 first_less o p e = rw e refl
 
@@ -36,7 +36,7 @@ then_assoc Less p q = refl
 then_assoc Equal p q = refl
 then_assoc Greater p q = refl
 
--- lists with prefixes of one length are compared by these, then by what follows
+-- if two prefixes have the same length, lists with these prefixes compare by them, then by the rest
 pub cmp_append : (xs ys : List Text) → length xs ≡ length ys → (zs ws : List Text) → slice_cmp text_cmp (xs ++ zs) (ys ++ ws) ≡ ordering_then (slice_cmp text_cmp xs ys) (slice_cmp text_cmp zs ws)
 cmp_append [] [] e zs ws = refl
 cmp_append [] (y ∷ ys) e zs ws = absurd (omega (arith, e))

@@ -19,7 +19,7 @@ use Rattle.rbac_matrix.proofs.Decided.{first}
 use Rattle.rbac_matrix.proofs.RowLemmas.{rows_complete}
 use Rattle.rbac_matrix.proofs.SearchLemmas.{in_drop}
 
--- ---- those of a list that have a property
+-- ---- the elements of a list that have a property
 
 module _ {X : Type 0} (P : X → Type 0) where
   pub those_none : (xs ys all : List X) → ((x : X) → Contains xs x → P x → ⊥) → AreThose P (xs ++ ys) all ↔ AreThose P ys all
@@ -36,7 +36,7 @@ module _ {X : Type 0} (P : X → Type 0) where
     λ w. inl (p, (w.0, w.2, w.1)),
   )
 
-  -- past those that don't, the first that does
+  -- the first element that has the property, after elements that don't have it
   pub those_next : (old skipped new : List X) (x : X) → old ≡ skipped ++ x ∷ new → ((y : X) → Contains skipped y → P y → ⊥) → P x
       → (all : List X) → AreThose P old all ↔ ((others : List X) × (all ≡ x ∷ others) × AreThose P new others)
   those_next old skipped new x e none p all =
@@ -46,7 +46,7 @@ module _ {X : Type 0} (P : X → Type 0) where
         λ w. subst (λ (xs : List X). AreThose P xs all) (sym e) (skip.1 (first.1 w)),
       )
 
--- from a place of a list on to a later one
+-- the rest of a list from place b on: some elements, then the element at place i, then the others
 pub between : {X : Type 0} (xs : List X) (b i : ℕ) (x : X) → b ≤ i → slice_get xs i ≡ Some x
     → (skipped : List X) × (drop b xs ≡ skipped ++ x ∷ drop (suc i) xs) × ((y : X) → Contains skipped y → (j : ℕ) × (b ≤ j) × (j < i) × (slice_get xs j ≡ Some y))
 between [] b i x le at = cc
@@ -65,10 +65,10 @@ between (y ∷ xs) (suc b) (suc i) x le at =
     let r = between xs b i x (omega arith) at in
     (r.0, r.1, λ z w. let s = r.2 z w in (suc s.0, omega (arith, s.1), omega (arith, s.2), s.3))
 
--- ---- what is granted, and what is allowed on a line
+-- ---- granted pairs, and the hits of a line
 
 module _ (p : PolicyView) (policy : IsPolicy p) where
-  -- where requests give no rows no pair of them is granted
+  -- if these requests have no rows, no binding grants one of them
   pub rowless_pairs : (cs : List Cell) → AreRowsOf p.held cs [] → (c : Cell) (b : Binding) → Contains cs c → Contains p.held.bindings b → IsGranted p.held (pair_of c b) → ⊥
   rowless_pairs cs none c b w v granted =
       elim (first p.held policy.0 c.who c.namespace c.verb c.target.0 p.held.bindings p.grants policy.1) [
@@ -79,7 +79,7 @@ module _ (p : PolicyView) (policy : IsPolicy p) where
       ]
 
   module _ (u : UniverseView) (l : LineView) where
-    -- a binding that grants does so by a grant
+    -- if a binding grants the line's request for a target, one of its grants is a hit
     pub granted_hit : (q j : ℕ) (t : Listed) (b : Binding) → slice_get u.targets q ≡ Some t → slice_get p.held.bindings j ≡ Some b → IsGranted p.held (pair_of (cell_of l t) b) → (k : ℕ) × IsHit p u l q k × IsOfBinding p k j
     granted_hit q j t b at bound granted =
         let brings = granted.1.2 in
@@ -92,7 +92,7 @@ module _ (p : PolicyView) (policy : IsPolicy p) where
           (grant_by b rule, n.1, bound),
         )
 
-    -- and what is allowed is granted by the grant's binding
+    -- the binding of a hit's grant grants the request
     pub hit_granted : (q k : ℕ) (h : IsHit p u l q k) → IsGranted p.held (pair_of (cell_of l h.target) h.grant.binding)
     hit_granted q k h =
         let of = binding_of p.held p.held.bindings p.grants k h.grant policy.1 h.grant_at in
@@ -101,7 +101,7 @@ module _ (p : PolicyView) (policy : IsPolicy p) where
         (h.fits, (h.allows.0, h.allows.1, (rules, of.2.1, (at.0, h.grant.rule, slice_get_within rules at.0 h.grant.rule at.1, get_or_from_slice_get rules at.0 h.grant.rule h.grant.rule at.1, h.allows.2))))
 
     module _ (from upto b : ℕ) (below : AreBelow p upto b) where
-      -- a grant of a binding from that one on is no earlier
+      -- a grant of a binding from place b on isn't before `from` and `upto`
       pub onward_grant : (q k j : ℕ) → IsOfBinding p k j → (from < q) ⊎ ((from ≡ q) × (b ≤ j)) → IsNoEarlier q k from upto
       onward_grant q k j of (inl lt) = inl lt
       onward_grant q k j of (inr same) = inr (
@@ -112,7 +112,8 @@ module _ (p : PolicyView) (policy : IsPolicy p) where
         ],
       )
 
-      -- nothing is granted from a place and a binding on
+      -- if there is no hit from `from` and `upto` on, no binding from b on grants a request from
+      -- there on
       pub none_granted : HasNoHit p u l from upto → (q j : ℕ) (t : Listed) (x : Binding) → slice_get u.targets q ≡ Some t → slice_get p.held.bindings j ≡ Some x → (from < q) ⊎ ((from ≡ q) × (b ≤ j)) → IsGranted p.held (pair_of (cell_of l t) x) → ⊥
       none_granted none q j t x at bound onward granted =
           let h = granted_hit q j t x at bound granted in
@@ -120,7 +121,7 @@ module _ (p : PolicyView) (policy : IsPolicy p) where
 
       module _ (place number start end i : ℕ) (next : IsNextHit p u l from upto place number) (of : IsOfBinding p number i)
           (own : (n at : ℕ) → IsOfBinding p n at → ((start ≤ n) × (n < end)) ↔ (at ≡ i)) (ends : (n at : ℕ) → IsOfBinding p n at → (n < end) ↔ (at ≤ i)) where
-        -- nothing is granted before the next one
+        -- no binding grants a request between `from` and the next hit
         pub none_before : (q j : ℕ) (t : Listed) (x : Binding) → slice_get u.targets q ≡ Some t → slice_get p.held.bindings j ≡ Some x → (from < q) ⊎ ((from ≡ q) × (b ≤ j))
             → (q < place) ⊎ ((q ≡ place) × (j < i)) → IsGranted p.held (pair_of (cell_of l t) x) → ⊥
         none_before q j t x at bound onward before granted =
@@ -137,7 +138,7 @@ module _ (p : PolicyView) (policy : IsPolicy p) where
                   ]
             ]
 
-        -- the binding is no earlier than that one
+        -- the binding of the next hit isn't before place b
         pub next_binding : from ≡ place → b ≤ i
         next_binding e = elim next.onward [
           | inl lt ↦ omega arith
@@ -158,7 +159,7 @@ module _ (bs : List Binding) where
   pairs_append cs ds = flat_map-append (cell_pairs bs) cs ds
 
   module _ (c : Cell) (cs : List Cell) (i : ℕ) (x : Binding) (at : slice_get bs i ≡ Some x) where
-    -- the pairs of a request up to a binding, and those past it
+    -- the pairs of a request with the bindings up to one, and with the bindings after it
     pub cell_split : (b : ℕ) (le : b ≤ i) → pairs_from bs b (c ∷ cs) ≡ map (pair_of c) (between bs b i x le at).0 ++ pair_of c x ∷ pairs_from bs (i + 1) (c ∷ cs)
     cell_split b le =
         let r = between bs b i x le at in
@@ -172,7 +173,7 @@ module _ (bs : List Binding) where
         let s = (between bs b i x le at).2 m.0 m.1 in
         (s.0, m.0, s.1, s.2, s.3, m.2)
 
-  -- those of the first request, and those of others
+  -- a pair of the first request, or of one of the other requests
   pub first_in : (d : Cell) (b : ℕ) (r : RowView) → Contains (map (pair_of d) (drop b bs)) r → (j : ℕ) × (y : Binding) × (b ≤ j) × (slice_get bs j ≡ Some y) × (pair_of d y ≡ r)
   first_in d b r w =
       let m = contains_map (pair_of d) (drop b bs) r w in

@@ -1,4 +1,4 @@
--- passing requests, and the rows that these give
+-- requests that are passed, and the rows that they have
 use Rattle.std.proofs.Common.{◌≡◌, ℕ, zero, suc, ◌+◌, ◌<◌, ◌≤◌, List, [], ◌∷◌, ◌++◌, length, get_or, refl, ap, ◌∙◌, sym, arith, append_assoc, subst, inl, inr, add-one}
 use Rattle.std.specs.Prelude.{Some, slice_get}
 use Rattle.std.proofs.Math.Seq.{drop-cons}
@@ -37,7 +37,7 @@ module _ (h : Held) where
     are = p.are;
   }
 
-  -- the rows of all are those given, and those of the rest
+  -- the rows of all requests are those of the passed requests, then those of the others
   pub passes_rows : (cs ds : List Cell) (rs ss : List RowView) → Passes h cs ds rs → AreRowsOf h ds ss → AreRowsOf h cs (rs ++ ss)
   passes_rows cs ds rs ss p are = subst (λ (l : List Cell). AreRowsOf h l (rs ++ ss)) (sym p.whole) (rows_append h p.between ds rs ss p.are are)
 
@@ -67,7 +67,7 @@ module _ (u : UniverseView) (l : LineView) where
     pub no_row_passes : (from : ℕ) (t : Listed) → slice_get u.targets from ≡ Some t → ((b : Binding) → HasRow h (cell_of l t) b → ⊥) → Passes h (line_cells_from u from l) (line_cells_from u (from + 1) l) []
     no_row_passes from t at none = record { between = cell_of l t ∷ []; whole = line_step from t at; are = inr (none, refl) }
 
-    -- over targets that give no row
+    -- targets whose requests have no row are passed
     pub passes_over : (from n : ℕ) → from + n ≤ length u.targets → ((at : ℕ) (t : Listed) → from ≤ at → at < from + n → slice_get u.targets at ≡ Some t → (b : Binding) → HasRow h (cell_of l t) b → ⊥) → Passes h (line_cells_from u from l) (line_cells_from u (from + n) l) []
     passes_over from zero le none = let e : from + 0 ≡ from = omega arith in rw e (passes_none h (line_cells_from u from l))
     passes_over from (suc n) le none =

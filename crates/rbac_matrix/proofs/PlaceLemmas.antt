@@ -1,4 +1,4 @@
--- bits of sets of places
+-- the bits of a set of places
 use Rattle.std.proofs.Common.{◌≡◌, ◌≢◌, ℕ, ◌+◌, ◌-◌, ◌*◌, ◌/◌, ◌%◌, ◌^◌, ◌<◌, ◌≤◌, ◌⊎◌, ◌↔◌, List, length, set, get_or, refl, ◌∙◌, sym, ap, arith, subst, inl, inr, w64, bit_or}
 use Rattle.std.specs.Int.{bit_at, trailing_zeros}
 use Rattle.std.proofs.lemmas.Bool.{cases_eq, cases_lt}
@@ -10,14 +10,14 @@ use Rattle.rbac_model.specs.Graphs.{HasPlace}
 use Rattle.rbac_matrix.specs.VerbPlaces.{LacksPlace}
 
 module _ (words : List ℕ) (at word : ℕ) (room : at < length words) (place : ℕ) where
-  -- a word was put there: the bits of the other words stay
+  -- if a word is replaced, the bits of the other words stay the same
   of_word : place / 64 ≡ at → bit_at (get_or (set words at word) (place / 64) 0) (place % 64) ≡ bit_at word (place % 64)
   of_word e = ap (λ (w : ℕ). bit_at w (place % 64)) (subst (λ (i : ℕ). get_or (set words at word) i 0 ≡ word) (sym e) (get_or-set_same words at word 0 room))
 
   of_others : place / 64 ≢ at → bit_at (get_or (set words at word) (place / 64) 0) (place % 64) ≡ bit_at (get_or words (place / 64) 0) (place % 64)
   of_others ne = ap (λ (w : ℕ). bit_at w (place % 64)) (get_or-set_other words at (place / 64) word 0 ne)
 
--- a place was put in
+-- a place is added
 pub added : (words : List ℕ) (place : ℕ) → place / 64 < length words → (other : ℕ) → HasPlace (set words (place / 64) (bit_or (get_or words (place / 64) 0) (1 * 2 ^ (place % 64) % 2 ^ 64))) other ↔ ((other ≡ place) ⊎ HasPlace words other)
 added words place room other =
     let word = bit_or (get_or words (place / 64) 0) (1 * 2 ^ (place % 64) % 2 ^ 64) in
@@ -38,7 +38,7 @@ added words place room other =
           )
     ]
 
--- those of the first places were put in whose bit is 1
+-- the places among the first 64 whose bit is 1 are added
 pub bits_added : (words : List ℕ) (bits : ℕ) → 0 < length words → (place : ℕ) → HasPlace (set words 0 (bit_or (get_or words 0 0) bits)) place ↔ (((place < 64) × HasBit bits place) ⊎ HasPlace words place)
 bits_added words bits room place = elim (cases_eq (place / 64) 0) [
   | inl first ↦
@@ -64,12 +64,12 @@ bits_added words bits room place = elim (cases_eq (place / 64) 0) [
       )
 ]
 
--- the bits of a word from one on
+-- the bits of a word from one bit on
 rest_bit : (word from k : ℕ) → bit_at (word / 2 ^ from) k ≡ bit_at word (from + k)
 rest_bit word from k = ap (λ (n : ℕ). n % 2) (shr-shr word from k)
 
 module _ (words : List ℕ) (from place : ℕ) (passed : (q : ℕ) → from ≤ q → q < place → LacksPlace words q) (room : place / 64 < length words) (rest : ℕ) (is : rest ≡ get_or words (place / 64) 0 / 2 ^ (place % 64)) where
-  -- a place of the same word
+  -- the bit of a place in the same word
   in_word : (q : ℕ) → place ≤ q → q < (place / 64 + 1) * 64 → bit_at rest (q - place) ≡ bit_at (get_or words (q / 64) 0) (q % 64)
   in_word q low high =
       let same : q / 64 ≡ place / 64 = omega arith in
@@ -90,7 +90,7 @@ module _ (words : List ℕ) (from place : ℕ) (passed : (q : ℕ) → from ≤ 
     first : (trailing_zeros w64 rest < 64) × (bit_at rest (trailing_zeros w64 rest) ≡ 1) × ((i : ℕ) → i < trailing_zeros w64 rest → bit_at rest i ≡ 0)
     first = bit_at-trailing_zeros w64 rest some (let few = shr_le (get_or words (place / 64) 0) (place % 64) in omega (arith, few, is))
 
-    -- the first of the other places that is in is one of the same word
+    -- if the rest of the word has a bit that is 1, the lowest one is within this word
     here : place % 64 + trailing_zeros w64 rest < 64
     here = elim (cases_lt (place % 64 + trailing_zeros w64 rest) 64) [
       | inl lt ↦ lt

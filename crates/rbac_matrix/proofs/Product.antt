@@ -15,7 +15,7 @@ use Rattle.rbac_matrix.specs.Cells.{cell_at, line_cells, namespace_cells, princi
 use Rattle.rbac_matrix.specs.Starting.{cell_name}
 use Rattle.rbac_matrix.proofs.Orders.{first_less}
 
--- the texts of a request that fits are those of its key
+-- if a request fits, its key has the texts by which the request is in order
 named : (u : UniverseView) (who : Who) (namespace verb : Text) (t : What) (b : Bool) → IsUniverse u → Contains u.targets (t, b) → Fits (cell_at who namespace verb (t, b)) → texts (cell_key (cell_at who namespace verb (t, b))) ≡ cell_name (cell_at who namespace verb (t, b))
 named u who namespace verb (Resource group text name) b is w fits = refl
 named u who namespace verb (Url path) true is w fits = absurd (is.urls path w)
@@ -64,7 +64,7 @@ by_target who namespace verb t v less =
     (after_same verb verb (target_texts t) (target_texts v) refl less))
 
 module _ (u : UniverseView) where
-  -- which requests these are
+  -- which requests they are
   pub in_line : (who : Who) (n v : Text) (c : Cell) → Contains (line_cells u who n v) c → (c.who ≡ who) × (c.namespace ≡ n) × (c.verb ≡ v) × Contains u.targets c.target
   in_line who n v c w =
       let r = contains_map (cell_at who n v) u.targets c w in (
@@ -98,7 +98,7 @@ module _ (u : UniverseView) where
       (flat_contains (namespace_cells u c.who) u.namespaces c.namespace c w.1
       (flat_contains (line_cells u c.who c.namespace) u.verbs c.verb c w.2 (map_contains (cell_at c.who c.namespace c.verb) u.targets c.target w.3)))
 
-  -- their order
+  -- in which order they are
   module _ (is : IsUniverse u) where
     line_ascends : (who : Who) (n v : Text) → IsAscendingBy cell_name (line_cells u who n v)
     line_ascends who n v = pairs_map IsBelow (cell_at who n v) u.targets (λ i j d lt l. by_target who n v (get_or u.targets i d) (get_or u.targets j d) (is.targets i j d lt l))

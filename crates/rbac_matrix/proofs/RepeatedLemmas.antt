@@ -48,7 +48,7 @@ pub repeat_somewhere : (namespace : Text) (own : Option Text) → repeats_at nam
 repeat_somewhere [] own e none = cc
 repeat_somewhere (c ∷ namespace) own e none = cc
 
--- the grants of the bindings before the first RoleBinding
+-- the grants of the bindings before the first RoleBinding belong to ClusterRoleBindings
 pub cluster_below : (p : PolicyView) → IsPolicy p → (count end : ℕ) → IsPartitionPoint (λ (b : Binding). is_none b.namespace ≡ true) (λ (b : Binding). is_none b.namespace ≡ false) p.held.bindings count
     → 0 < count → ((n at : ℕ) → IsOfBinding p n at → (n < end) ↔ (at ≤ count - 1)) → AreClusterWide p end
 cluster_below p policy count end parted some upto k g at lt =
@@ -67,7 +67,7 @@ repeated_line p first cluster l some none = record {
   ];
 }
 
--- where no RoleBinding names who asks, each line of a namespace is repeated
+-- in a namespace where no RoleBinding names the principal, each line is repeated
 bound_nowhere : (own : Option Text) (namespace : Text) → LiveForSome own namespace → (own ≡ Some namespace → ⊥) → own ≡ None
 bound_nowhere None namespace live other = refl
 bound_nowhere (Some n) namespace live other = absurd (other (ap (λ (t : Text). Some t) live.1))
@@ -84,7 +84,7 @@ later_some from x some (inl same) none = some (sym same ∙ none)
 later_some [] x some (inr less) none = some refl
 later_some (c ∷ cs) x some (inr less) none = let before : text_cmp (c ∷ cs) [] ≡ Less = subst (λ (t : Text). text_cmp (c ∷ cs) t ≡ Less) none less in cc
 
--- so it is from a namespace on, up to where one does
+-- so each line that is passed as unnamed is repeated, if its namespace isn't empty
 pub repeated_from : (p : PolicyView) (u : UniverseView) (asking : Who) (from : Text) (at to : Place) → from ≢ [] → PassesUnnamed p u asking from at to → PassesRepeated p u at to
 repeated_from p u asking from at to some passes = record {
   between = passes.between;
@@ -108,7 +108,7 @@ module _ (p : PolicyView) (u : UniverseView) where
 -- ---- the pairs of lines that are passed
 
 module _ (p : PolicyView) (policy : IsPolicy p) (u : UniverseView) where
-  -- what only ClusterRoleBindings grant is a repeat
+  -- if each hit is by a ClusterRoleBinding, each granted pair is a repeat
   pub hits_repeat : IsUniverse u → (l : LineView) → l.namespace ≢ [] → (q : ℕ) → ((k : ℕ) → IsHit p u l q k → (c : IsCursorAt p l k) → c.grant.binding.namespace ≡ None) → HasRepeatsAt p u l q
   hits_repeat is l some q cluster at t b read bound granted =
       let h = granted_hit p policy u l q at t b read bound granted in
@@ -118,11 +118,11 @@ module _ (p : PolicyView) (policy : IsPolicy p) (u : UniverseView) where
       let none : b.namespace ≡ None = ap (λ (x : Binding). x.namespace) binding ∙ cluster h.0 h.1 cursor in
       rw (fits_namespace u is l q t read granted.0, none) (repeats_somewhere l.namespace some)
 
-  -- where no RoleBinding has a cursor, what is granted is so by a ClusterRoleBinding
+  -- if no RoleBinding has a cursor on the line, each granted pair of the line is a repeat
   pub lines_repeat : IsUniverse u → (l : LineView) → IsRepeated p l → HasRepeats p u l
   lines_repeat is l repeated q = hits_repeat is l repeated.some q (λ k hit. repeated.cursors k)
 
-  -- a request that doesn't fit has no row
+  -- a request that isn't namespaced doesn't fit in a namespace
   unfit_flag : (flag : Bool) (namespace : Text) → flag ≡ false → namespace ≢ [] → IsTrue flag ⊎ (namespace ≡ []) → ⊥
   unfit_flag flag namespace none some (inl fits) = cc
   unfit_flag flag namespace none some (inr bare) = some bare
@@ -135,7 +135,7 @@ module _ (p : PolicyView) (policy : IsPolicy p) (u : UniverseView) where
         unfit_flag t.1 l.namespace (flag_at u.targets place t false (subst (λ (n : ℕ). slice_get u.targets n ≡ Some t) same read) told) some granted.0)
   ]
 
-  -- before the least place from which on RoleBindings have entries there are only repeats
+  -- before the least place where a seat of a RoleBinding may be, there are only repeats
   module _ (rs : List (List ℕ)) (l : LineView) (is : IsUniverse u) (reaches : AreReaches p u rs) (some : l.namespace ≢ []) (from upto : ℕ) (none : upto ≡ 0) (seats : List Seat) (seated : AreSeated p l rs from upto seats) (runs : Runs) (bs : List Block) (blocks : AreBlocks p l runs seats bs) (count : ℕ) (cluster : AreClusterWide p count) where
     pub repeats_before : (to : ℕ) → to ≤ past_all → ((i : ℕ) → i < length bs → count < (block_at bs i).end → to ≤ (block_at bs i).place) → HasRepeatsFrom p u l from to
     repeats_before to top least q low high = hits_repeat is l some q (λ k hit c.
@@ -146,7 +146,7 @@ module _ (p : PolicyView) (policy : IsPolicy p) (u : UniverseView) where
           | inr ge ↦ absurd (let own = (blocks.each of.0 of.1).least k of.2.0 of.2.1 in omega (arith, own.least, of.2.1, least of.0 of.1 (omega (arith, of.2.1))))
         ])
 
-  -- a line without rows has none of them
+  -- a line without rows has only repeats
   pub rowless_repeats : (ls : List LineView) → AreRowsOf p.held (flat_map (line_cells_from u 0) ls) [] → (l : LineView) → Contains ls l → HasRepeats p u l
   unfolding line_cells_from
   rowless_repeats ls none l w q at t b read bound granted = absurd (
@@ -166,7 +166,8 @@ module _ (p : PolicyView) (policy : IsPolicy p) (u : UniverseView) where
     ];
   }
 
--- the runs of a line that is left, kept for its namespace alone
+-- what is known of the runs of a line that is left, once they are marked as those of its namespace
+-- alone
 pub known_here : (p : PolicyView) (u : UniverseView) (at next : Place) (l : LineView) (old runs : Runs) → IsLineAt u at l → AreRunsOf p u l old → runs ≡ record old { is_bare = false } → (next ≡ next_verb at) ⊎ (next.verb ≡ 0) → AreKnownAt p u next runs
 known_here p u at next l old runs here are e (inl same) = rw (same, e) (known_at p u at l (record old { is_bare = false }) (at.verb + 1) here are (λ bare. cc))
 known_here p u at next l old runs here are e (inr first) = record {
@@ -175,7 +176,7 @@ known_here p u at next l old runs here are e (inr first) = record {
   told = rw e are.2;
 }
 
--- the account over lines that are left
+-- the meter's bounds still hold after a line is left and lines are passed
 pub metered_lines : (p : PolicyView) (u : UniverseView) (rs : List (List ℕ)) (start : Place) (sought given : ℕ) (at next past to : Place) (l : LineView) (from upto : ℕ) (old empty seats : List Seat) (m m' : ℕ) → IsPolicy p → IsUniverse u → AreReaches p u rs
     → lines_from u at ≡ l ∷ lines_from u next → AreSeated p l rs from upto old → AreEmpty p empty → PassesRepeated p u next past → Skips p.held u past to → Costs 0 0 empty seats m m' → IsMetered p u start sought at old given m → IsMetered p u start sought to seats given m'
 metered_lines p u rs start sought given at next past to l from upto old empty seats m m' policy is reaches e seated none passes skips costs h =

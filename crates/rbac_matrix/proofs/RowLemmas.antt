@@ -1,4 +1,4 @@
--- the rows of requests are one list; those of more requests follow
+-- requests determine the list of their rows, and the rows of more requests follow
 use Rattle.std.proofs.Common.{◌≡◌, ℕ, List, [], ◌∷◌, ◌++◌, Contains, inl, inr, sym, ap, ap₂, ◌∙◌, refl, arith, subst}
 use Rattle.std.specs.Prelude.{slice_get}
 use Rattle.std.proofs.lemmas.Bool.{cases_eq, cases_lt}
@@ -16,7 +16,7 @@ use Rattle.std.proofs.Common.{length, get_or, Less, suc}
 use Rattle.std.proofs.lemmas.List.Elements.{Contains-get_or}
 use Rattle.rbac_matrix.specs.Cells.{HasRow, AreRowsOf}
 
--- the first of a list that has a property is one
+-- the first element with a property is one element
 first_one : {X : Type 0} (P : X → Type 0) (xs : List X) (i j : ℕ) (x y : X) → IsFirstAt P xs i x → IsFirstAt P xs j y → x ≡ y
 first_one P xs i j x y f g = elim (cases_lt i j) [
   | inl l ↦ absurd (g.none_before i x l f.here f.holds)
@@ -55,7 +55,7 @@ module _ (h : Held) where
       let r = rows_split cs ds rows p.1 in
       (r.0, r.1, inr (p.0, r.2), r.3, r.4)
 
-  -- what is a row of the requests
+  -- which rows the requests have
   pub rows_sound : (cs : List Cell) (rows : List RowView) → AreRowsOf h cs rows → (r : RowView) → Contains rows r → Contains cs r.cell × HasRow h r.cell r.binding
   rows_sound [] rows p r w = let l = w.1 in absurd (omega (arith, ap length p))
   rows_sound (c ∷ cs) rows (inl p) r w = elim (in_cons (row_at c p.0) p.1 r (subst (λ (l : List RowView). Contains l r) p.4 w)) [
@@ -103,7 +103,7 @@ module _ (h : Held) (name : Cell → List Text) where
       )
   rows_ascend (c ∷ cs) rows (inr p) up = rows_ascend cs rows p.1 (tail_ascends name c cs up)
 
-  -- rows in order that are those of the requests are their rows
+  -- ascending rows that are exactly the rows of the requests are the list of their rows
   pub rows_from : (cs : List Cell) (rows : List RowView) → IsAscendingBy name cs → IsAscendingBy row_name rows
       → ((r : RowView) → Contains rows r → Contains cs r.cell × HasRow h r.cell r.binding)
       → ((r : RowView) → Contains cs r.cell → HasRow h r.cell r.binding → Contains rows r) → AreRowsOf h cs rows

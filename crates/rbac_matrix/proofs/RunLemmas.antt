@@ -1,4 +1,4 @@
--- runs after runs
+-- runs that follow other runs
 use Rattle.std.proofs.Common.{◌≡◌, ℕ, ◌+◌, ◌-◌, ◌<◌, ◌≤◌, ◌++◌, ap, arith, length, refl, slice_get, subst, Bool, List, [], ◌∷◌}
 use Rattle.std.specs.Prelude.{None, Some, true}
 use Rattle.std.proofs.lemmas.Option.{same_Some}
@@ -10,12 +10,12 @@ use Rattle.rbac_subjects.specs.declared.first_runs.Run.{Run}
 use Rattle.rbac_matrix.specs.Cursors.{end_after}
 
 module _ (p : PolicyView) (who : Who) (namespace : Text) where
-  -- the runs that follow the first ones come after them
+  -- the first runs, and the runs that follow them, are the first runs together
   pub runs_then : (before after : Bool) (from : ℕ) (runs rest : List Run) → AreRunsFrom p who namespace before from runs → AreRunsFrom p who namespace after (end_after from runs) rest → AreRunsFrom p who namespace after from (runs ++ rest)
   runs_then before after from [] rest are more = more
   runs_then before after from (run ∷ runs) rest are more = (are.0, runs_then before after run.end runs rest are.1 more)
 
-  -- where none follows, these are all
+  -- if no grant follows the last run, these are all runs
   pub runs_end : (before : Bool) (from : ℕ) (runs : List Run) → AreRunsFrom p who namespace before from runs → ((k : ℕ) → end_after from runs ≤ k → IsBoundTo p who namespace k → ⊥) → AreRunsFrom p who namespace true from runs
   runs_end before from [] are none = λ all. none
   runs_end before from (run ∷ runs) are none = (are.0, runs_end before run.end runs are.1 none)
@@ -24,7 +24,7 @@ pub end_then : (from : ℕ) (runs : List Run) (run : Run) → end_after from (ru
 end_then from [] run = refl
 end_then from (first ∷ runs) run = end_then first.end runs run
 
--- the last of several runs says where they end
+-- the end of several runs is that of the last one
 some_at : (first : Run) (runs : List Run) → slice_get (first ∷ runs) (length runs) ≡ None → ⊥
 some_at first [] at = let both : Some first ≡ None = at in cc
 some_at first (second ∷ runs) at = some_at second runs at

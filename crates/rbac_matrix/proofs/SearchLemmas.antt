@@ -29,7 +29,7 @@ index_few Less = omega arith
 index_few Equal = omega arith
 index_few Greater = omega arith
 
--- what stands in a prefix of a list, and past it
+-- the elements of a prefix of a list, and those after it
 pub in_take : {X : Type 0} (xs : List X) (n : ℕ) (x : X) → Contains (take n xs) x → (j : ℕ) × (j < n) × (slice_get xs j ≡ Some x)
 in_take xs zero x w = absurd (omega (arith, w.1))
 in_take [] (suc n) x w = absurd (omega (arith, w.1))
@@ -72,7 +72,7 @@ module _ {X K : Type 0} (cmp : K → K → Ordering) (total : IsTotalOrder cmp) 
       let g : ordering_index (cmp a t) ≡ 0 = ap ordering_index f in omega arith)
       (λ e. let f : ordering_index (cmp b t) ≡ 2 = ap ordering_index e in omega (arith, index_few (cmp a t)))
 
-  -- the order against t rises
+  -- the elements compare to t in rising order: less, equal, greater
   pub rises : IsNonDecreasingBy (λ x. ordering_index (cmp (name x) t)) xs
   rises i j d le lt = elim (cases_lt i j) [
     | inl less ↦ rises_at (name (get_or xs i d)) (name (get_or xs j d)) (up i j d less lt)
@@ -103,7 +103,7 @@ module _ {X K : Type 0} (cmp : K → K → Ordering) (total : IsTotalOrder cmp) 
   place_from (Ok i) lt at = let x = read_some xs i lt in (found_at i x.0 x.1 (rw (get_or_from_slice_get xs i x.0 x.0 x.1) at (at x.0)), tt)
   place_from (Err i) le at = (tt, gap_at i le (at rises))
 
-  -- nothing ties where there is a gap
+  -- if t has a gap, no element is equal to t
   pub gap_absent : (i : ℕ) → IsGapAt cmp name xs t i → (x : X) → Contains xs x → name x ≡ t → ⊥
   gap_absent i g x w e =
       let tie : cmp (name x) t ≡ Equal = ap (λ (k : K). cmp k t) e ∙ tied_itself total t in
@@ -112,7 +112,7 @@ module _ {X K : Type 0} (cmp : K → K → Ordering) (total : IsTotalOrder cmp) 
         | inr v ↦ not_tied _ tie (g.above x v)
       ]
 
-  -- nothing ties but what is found
+  -- only the element that was found is equal to t
   pub found_alone : (i : ℕ) → IsFoundAt cmp name xs t i → (j : ℕ) (x : X) → slice_get xs j ≡ Some x → name x ≡ t → j ≡ i
   found_alone i f j x at e =
       let tie : cmp (name x) t ≡ Equal = ap (λ (k : K). cmp k t) e ∙ tied_itself total t in

@@ -10,7 +10,7 @@ use Rattle.rbac_matrix.specs.declared.seat.Seat.{Seat}
 use Rattle.rbac_matrix.specs.Seats.{IsSeated, IsSeatedBefore, AreEmpty, Costs, SeatCosts, ReadsAtMost, IsFirstFrom, empty_seat, no_seat, filled, passed, past_all, seat_at, stand_of, standing}
 use Rattle.rbac_matrix.proofs.SeekLemmas.{ascends, raised-raised}
 
--- the seat after the entry at a place
+-- the seat that moves on from its entry is at the first entry past that place
 pub seated_after : (r : List ℕ) (old new : Seat) → IsStrictlyIncreasing r → IsSeated r old.place old → old.place < past_all → new.position ≡ old.position + 1 → new.place ≡ get_or r new.position past_all → old.position < length r → IsSeated r (old.place + 1) new
 seated_after r old new up h real moved read within =
     let here : get_or r old.position past_all ≡ get_or r old.position 0 = get_or_default r old.position past_all 0 within in
@@ -28,14 +28,14 @@ seated_after r old new up h real moved read within =
       ];
     }
 
--- a seat that stands at an entry is within its reach
+-- a seat at an entry is within its reach
 pub stands_within : (r : List ℕ) (from : ℕ) (seat : Seat) → IsSeated r from seat → seat.place < past_all → seat.position < length r
 stands_within r from seat h real = elim (cases_lt seat.position (length r)) [
   | inl lt ↦ lt
   | inr ge ↦ absurd (let e : get_or r seat.position past_all ≡ past_all = get_or_past r seat.position past_all ge in omega (arith, h.place))
 ]
 
--- a seat that stands elsewhere has nothing at the place
+-- a seat that isn't at the place has no entry there, so it is seated past it too
 pub seated_stays : (r : List ℕ) (place : ℕ) (seat : Seat) → IsSeated r place seat → seat.place ≢ place → IsSeated r (place + 1) seat
 seated_stays r place seat h ne = record {
   within = h.within;
@@ -44,7 +44,7 @@ seated_stays r place seat h ne = record {
   ahead = let low = h.ahead in omega arith;
 }
 
--- a seat at the first entry from some place on is at the first one from its own place on
+-- a seat is at the first entry from its own place on
 pub seated_here : (r : List ℕ) (place : ℕ) (seat : Seat) → IsSeatedBefore r place seat → IsSeated r seat.place seat
 seated_here r place seat (from, le, h) = record {
   within = h.within;
@@ -53,7 +53,7 @@ seated_here r place seat (from, le, h) = record {
   ahead = omega arith;
 }
 
--- and, where it doesn't come before a later place, from that one on
+-- a seat that isn't before a place is at the first entry from that place on
 pub seated_before : (r : List ℕ) (place : ℕ) (seat : Seat) → IsSeatedBefore r place seat → place ≤ seat.place → IsSeated r place seat
 seated_before r place seat (from, le, h) ahead = record {
   within = h.within;
@@ -73,7 +73,7 @@ seated_first r from position seat h top at place = record {
   ];
 }
 
--- what it costs to take an empty seat
+-- the cost of seating a grant in an empty seat
 pub start_costs : (r : List ℕ) (seat : Seat) (position limit before middle after : ℕ) → ((i : ℕ) → i < length r → get_or r i 0 < past_all) → ReadsAtMost limit before middle → seat.position ≡ position → seat.place ≡ get_or r position past_all → (position < length r → after ≡ raised middle 1) → (length r ≤ position → after ≡ middle) → SeatCosts limit 0 empty_seat seat before after
 start_costs r seat position limit before middle after real h at place read unread = elim (cases_lt position (length r)) [
   | inl lt ↦
@@ -87,7 +87,7 @@ start_costs r seat position limit before middle after real h at place read unrea
 pub none_read : (limit m : ℕ) → ReadsAtMost limit m m
 none_read limit m = record { total = 0; most = omega arith; meter = omega arith }
 
--- what it costs to move a seat on
+-- the cost of moving a seat on
 pub next_costs : (r : List ℕ) (old new : Seat) (before after : ℕ) → old.place < past_all → new.position ≡ old.position + 1 → new.place ≡ get_or r new.position past_all → (new.position < length r → after ≡ raised before 1) → (length r ≤ new.position → after ≡ before) → ((i : ℕ) → i < length r → get_or r i 0 < past_all) → SeatCosts 0 1 old new before after
 next_costs r old new before after stood at place read unread real = elim (cases_lt new.position (length r)) [
   | inl lt ↦
@@ -98,7 +98,7 @@ next_costs r old new before after stood at place read unread real = elim (cases_
       record { total = 0; meter = omega (arith, unread ge); low = omega arith; high = omega arith }
 ]
 
--- one step after another
+-- the cost of two steps, one after the other
 pub seat_costs_then : (a b c : Seat) (gain m m' m'' : ℕ) → SeatCosts 0 0 a b m m' → SeatCosts 0 gain b c m' m'' → SeatCosts 0 0 a c m m''
 seat_costs_then a b c gain m m' m'' p q = record {
   total = p.total + q.total;
@@ -110,7 +110,7 @@ seat_costs_then a b c gain m m' m'' p q = record {
 pub seat_costs_none : (seat : Seat) (m : ℕ) → SeatCosts 0 0 seat seat m m
 seat_costs_none seat m = record { total = 0; meter = omega arith; low = omega arith; high = omega arith }
 
--- one more seat is written
+-- one seat is replaced
 module _ (seats : List Seat) (k : ℕ) (s : Seat) (h : k < length seats) where
   pub set_each : (Q : ℕ → Seat → Type 0) → ((j : ℕ) → j < length seats → j ≢ k → Q j (seat_at seats j)) → Q k s → (j : ℕ) → j < length (set seats k s) → Q j (seat_at (set seats k s) j)
   set_each Q others here j lt = elim (cases_eq j k) [
@@ -138,7 +138,7 @@ module _ (seats : List Seat) (k : ℕ) (s : Seat) (h : k < length seats) where
     high = omega (arith, a.high, b.high, standing_set, passed_set);
   }
 
--- nothing was done
+-- if no seat changes, the cost is 0
 pub Costs-none : (seats : List Seat) (m : ℕ) → Costs 0 0 seats seats m m
 Costs-none seats m = record { total = 0; meter = omega arith; low = omega arith; high = omega arith }
 
@@ -150,7 +150,7 @@ Costs-then a b c l g l' g' m m' m'' p q = record {
   high = omega (arith, p.high, q.high);
 }
 
--- a sum of noughts
+-- a sum of zeros
 sum_none : (f : Seat → ℕ) (seats : List Seat) → ((k : ℕ) → k < length seats → f (seat_at seats k) ≡ 0) → sum_by f seats ≡ 0
 sum_none f [] h = refl
 sum_none f (s ∷ seats) h =
@@ -173,7 +173,7 @@ empty_filled p seats h = sum_none (λ (s : Seat). min 1 (s.position + stand_of s
 le_more : (a b n : ℕ) → a ≤ 1 → b ≤ n → a + b ≤ suc n
 le_more a b n h k = omega arith
 
--- a sum of ones and noughts
+-- a sum of ones and zeros
 sum_few : (f : Seat → ℕ) → ((s : Seat) → f s ≤ 1) → (seats : List Seat) → sum_by f seats ≤ length seats
 sum_few f one [] = omega arith
 sum_few f one (s ∷ seats) =
@@ -186,6 +186,6 @@ pub filled_few : (seats : List Seat) → filled seats ≤ length seats
 unfolding filled
 filled_few seats = sum_few (λ (s : Seat). min 1 (s.position + stand_of s)) (λ s. omega arith) seats
 
--- a step that left entries behind is one that did
+-- the cost of a step that left entries behind is also that of a step that left none
 pub Costs-less : (limit gain : ℕ) (old new : List Seat) (before after : ℕ) → Costs limit gain old new before after → Costs limit 0 old new before after
 Costs-less limit gain old new before after h = record { total = h.total; meter = h.meter; low = omega (arith, h.low); high = h.high }

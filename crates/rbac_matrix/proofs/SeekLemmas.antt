@@ -1,15 +1,15 @@
--- a search by halves, and how many entries it reads
+-- a binary search, and how many entries it reads
 use Rattle.std.proofs.Common.{◌≡◌, ℕ, zero, suc, ◌+◌, ◌*◌, ◌^◌, ◌<◌, ◌≤◌, List, length, get_or, arith, inl, inr, add-one}
 use Rattle.std.specs.List.Sorted.{IsStrictlyIncreasing}
 use Rattle.std.proofs.lemmas.Bool.{cases_lt}
 use Rattle.std.proofs.Math.Nat.{pow-le-pow_right, pow-succ', mul-le-mul_right}
 use Rattle.rbac_reaches.specs.Reaches.{raised}
 
--- two rises of a meter are one
+-- to raise a meter twice is to raise it once by the sum
 pub raised-raised : (m a b : ℕ) → raised (raised m a) b ≡ raised m (a + b)
 raised-raised m a b = omega arith
 
--- each entry is above those before it
+-- each entry is greater than those before it
 pub ascends : (xs : List ℕ) → IsStrictlyIncreasing xs → (i j : ℕ) → i < j → j < length xs → get_or xs i 0 < get_or xs j 0
 ascends xs up i zero h k = absurd (omega arith)
 ascends xs up i (suc j) h k =
@@ -20,14 +20,14 @@ ascends xs up i (suc j) h k =
       | inr ge ↦ let same : i ≡ j = omega arith in rw same step
     ])
 
--- so many reads have left so wide a part of a million
+-- after `total` reads, the part that is left is no wider than a million halved `total` times
 pub record Halved (width before after : ℕ) : Type 0 where
   pub total : ℕ
   pub small : width * 2 ^ total ≤ 1000000
   pub most : total ≤ 20
   pub meter : after ≡ raised before total
 
--- fewer than 20 reads were made while there is a part left
+-- while an entry is left, fewer than 20 reads were made
 below_20 : (width total : ℕ) → 0 < width → width * 2 ^ total ≤ 1000000 → total < 20
 below_20 width total some small = elim (cases_lt total 20) [
   | inl lt ↦ lt
@@ -48,7 +48,8 @@ Halved-more width width' before m after some half h e = record {
   meter = rw (← raised-raised, ← h.meter) e;
 }
 
--- entries below one that is too small are too small, and those above one that is large enough are large enough
+-- each entry up to one that is too small is too small; each entry from one that is large enough on
+-- is large enough
 pub before_middle : (xs : List ℕ) (from middle : ℕ) → IsStrictlyIncreasing xs → middle < length xs → get_or xs middle 0 < from → (k : ℕ) → k < middle + 1 → get_or xs k 0 < from
 before_middle xs from middle up h small k lt = elim (cases_lt k middle) [
   | inl below ↦ omega (arith, ascends xs up k middle below h)

@@ -1,4 +1,4 @@
--- There is a matrix of a policy over a universe.
+-- Each policy has a matrix over each universe.
 use Rattle.std.proofs.Common.{List, [], ◌∷◌, ◌⊎◌, inl, inr, refl}
 use Rattle.rbac_terms.specs.declared.granting.Binding.{Binding}
 use Rattle.rbac_model.specs.Policies.{PolicyView, IsPolicy}

@@ -1,4 +1,4 @@
--- where the requests after a key begin, and the rows of those
+-- where the requests after a key begin, and their rows
 use Rattle.std.proofs.Common.{◌≡◌, ℕ, ◌+◌, Bool, true, false, List, [], ◌∷◌, ◌++◌, map, take, drop, Contains, filter, Less, Equal, Greater, Ordering, refl, ap, ◌∙◌, sym, arith, subst, inl, inr, append_assoc}
 use Rattle.std.specs.Prelude.{Option, Some, None, slice_get}
 use Rattle.std.specs.List.{flat_map}
@@ -39,7 +39,7 @@ pub filter_all : {X : Type 0} (q : X → Bool) (xs : List X) → ((x : X) → Co
 filter_all q [] all = refl
 filter_all {X} q (x ∷ xs) all = rw (all x (here x xs)) (ap (λ (rest : List X). x ∷ rest) (filter_all q xs (λ y w. all y (there x xs y w))))
 
--- a row comes after the key where its request does
+-- a row comes after the key if its request does
 abbrev pub RowAfter : Option KeyTexts → RowView → Type 0
 RowAfter None r = Unit {0}
 RowAfter (Some k) r = is_gt (key_cmp (cell_key r.cell) k) ≡ true
@@ -59,7 +59,7 @@ all_rows (Some k) rs ss early late =
     let q : RowView → Bool = λ row. is_gt (key_cmp (cell_key row.cell) k) in
     filter-append q rs ss ∙ rw (filter_none q rs early, filter_all q ss late) refl
 
--- the rows of what is left from the start are those after the key
+-- the rows of the requests that are left from the start are the rows after the key
 pub start_rows : (h : Held) (u : UniverseView) → IsUniverse u → (k : Option KeyTexts) (at : Place) (from : ℕ) (rows : List RowView) → IsStart u k at from → AreRowsOf h (cells_of u) rows → AreRowsOf h (cells_left u at from) (rows_after k rows)
 start_rows h u is k at from rows s are =
     let left = cells_left u at from in
@@ -75,7 +75,7 @@ start_rows h u is k at from rows s are =
     after_row k r name (s.late r.cell has.0)) in
     subst (λ (rs : List RowView). AreRowsOf h left rs) (sym same) split.3
 
--- ---- requests that stand on one side or the other
+-- ---- requests before and after a cut
 
 pub record Cut (O : Cell → Ordering) (cs before left : List Cell) : Type 0 where
   pub whole : cs ≡ before ++ left
@@ -110,7 +110,7 @@ module _ {X : Type 0} (O : Cell → Ordering) (f : X → List Cell) (xs : List X
     ];
   }
 
--- ---- the order of requests against a key, by more and more of their texts
+-- ---- how requests compare to a key: whole, and from the namespace, verb or target on
 
 module _ (k : KeyTexts) where
   abbrev pub by_all : Cell → Ordering
@@ -125,7 +125,7 @@ module _ (k : KeyTexts) where
   abbrev pub by_target : Cell → Ordering
   by_target c = slice_cmp text_cmp (target_texts c.target) (target_part k)
 
--- ---- the requests that are left, list by list
+-- ---- the requests that are left, by principal, namespace, verb and target
 
 flat_same : {X Y : Type 0} (f g : X → List Y) → ((x : X) → f x ≡ g x) → (xs : List X) → flat_map f xs ≡ flat_map g xs
 flat_same f g e [] = refl
@@ -249,7 +249,7 @@ module _ (u : UniverseView) where
         (λ c b. first_tied (text_cmp (who_key c.who) k.principal) _ (at_who f.here.0 c Equal b f.here.2))
         cut
 
-    -- a cut of all requests is the start of what is left
+    -- a cut of all requests gives the start
     start_of_cut : (at : Place) (from : ℕ) (before left : List Cell) → Cut (by_all k) (cells_of u) before left → cells_left u at from ≡ left → IsStart u (Some k) at from
     start_of_cut at from before left cut e = record {
       before = before;
@@ -282,7 +282,7 @@ module _ (u : UniverseView) where
           (cut_principal at.principal _ _ own.principal (cut_namespace who at.namespace _ _ own.namespace (cut_verb who namespace at.verb _ _ own.verb (cut_targets who namespace verb from t))))
           (left_of_target at.principal at.namespace at.verb from who namespace verb own.principal.here.1 own.namespace.here.1 own.verb.here.1)
 
-      -- what stands before a target's place
+      -- some requests come before a target's place, and then those that are left
       pub own_suffix : (from : ℕ) → (before : List Cell) × (cells_of u ≡ before ++ cells_left u at from)
       own_suffix from =
           let targets : line_cells u who namespace verb ≡ map (cell_at who namespace verb) (take from u.targets) ++ map (cell_at who namespace verb) (drop from u.targets) =
@@ -312,7 +312,7 @@ module _ (u : UniverseView) where
         exact_bytes verb k.verb own.verb.here.2,
       )
 
-  -- at a place with the same lines the same begins
+  -- if two places have the same lines, the requests after the key begin at both or at neither
   pub start_same : (k : Option KeyTexts) (at to : Place) → lines_from u at ≡ lines_from u to → IsStart u k to 0 → IsStart u k at 0
   start_same k at to e s =
       let left : cells_left u at 0 ≡ cells_left u to 0 = ap (cells_of_lines u 0) e in
@@ -323,6 +323,6 @@ module _ (u : UniverseView) where
         late = λ c w. s.late c (subst (λ (cs : List Cell). Contains cs c) left w);
       }
 
-  -- without a key all begins with the first line
+  -- without a key, the requests begin with the first line
   pub start_first : IsStart u None (place 0 0 0) 0
   start_first = record { before = []; whole = sym (left_of_principal 0); early = λ c w after. absurd (omega (arith, w.1)); late = λ c w. tt }

@@ -1,4 +1,4 @@
--- those of a list that have a property, in order
+-- the elements of a list that have a property, in order
 use Rattle.std.proofs.Common.{◌≡◌, List, [], ◌∷◌, ◌++◌, ◌∙◌, Contains, inl, inr, sym, ap, refl, arith, subst, length, get_or, Less}
 use Rattle.std.proofs.lemmas.List.Kept.{AllPairs-cons}
 use Rattle.std.proofs.lemmas.List.Elements.{Contains-get_or}
@@ -46,7 +46,7 @@ module _ {X : Type 0} (P : X → Type 0) where
   those_one (x ∷ xs) rs ss (inr p) (inl q) = absurd (p.0 q.0)
   those_one (x ∷ xs) rs ss (inr p) (inr q) = those_one xs rs ss p.1 q.1
 
-  -- where it is decided of each, there are those
+  -- if each element either has the property or doesn't, the list of those that have it exists
   pub some_those : (xs : List X) → ((x : X) → Contains xs x → Decided (P x)) → (ys : List X) × AreThose P xs ys
   some_those [] decided = ([], refl)
   some_those (x ∷ xs) decided =

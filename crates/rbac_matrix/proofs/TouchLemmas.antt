@@ -42,7 +42,7 @@ count_map P f (x ∷ xs) n (inr h) = inr (h.0, count_map P f xs n h.1)
 tail_up : (x : ℕ) (r : List ℕ) → IsStrictlyIncreasing (x ∷ r) → IsStrictlyIncreasing r
 tail_up x r up k lt = let e : k + 1 ≡ suc k = omega arith in rw e (ascends (x ∷ r) up (suc k) (suc (suc k)) (omega arith) (omega arith))
 
--- ascending places of elements that have the property are no more than such elements
+-- ascending places of elements with the property are no more than the elements with the property
 places_few : {X : Type 0} (P : X → Type 0) (xs : List X) (from : ℕ) (r : List ℕ) (n : ℕ) → IsStrictlyIncreasing r
     → ((i : ℕ) → i < length r → (from ≤ get_or r i 0) × ((x : X) × (slice_get xs (get_or r i 0 - from) ≡ Some x) × P x)) → IsCount P xs n → length r ≤ n
 places_few P xs from [] n up at h = omega arith
@@ -80,7 +80,7 @@ places_few P (x ∷ xs) from (u ∷ r) n up at h = elim (cases_eq u from) [
       ]
 ]
 
--- ---- what was read for seats is no more than what their reaches have
+-- ---- no more entries are read for seats than their reaches have
 
 abbrev pub read_of : Seat → ℕ
 read_of s = s.position + stand_of s
@@ -115,7 +115,7 @@ module _ (p : PolicyView) (u : UniverseView) (rs : List (List ℕ)) (l : LineVie
   abbrev Touches : GrantView × Listed → Type 0
   Touches pair = IsCursor l.who l.namespace l.verb pair.0 × TargetOk pair.0.rule.rule pair.1.0
 
-  -- a cursor's reach has no more places than pairs
+  -- a cursor's reach has no more places than the cursor has touches
   reach_few : (k : ℕ) (c : IsCursorAt p l k) (m : ℕ) → IsCount Touches (map (λ (t : Listed). (c.grant, t)) u.targets) m → length (reach_at rs k) ≤ m
   reach_few k c m h =
       places_few (λ (t : Listed). Touches (c.grant, t)) u.targets 0 (reach_at rs k) m (reach_up p u rs l policy is reaches k c)
@@ -141,7 +141,7 @@ module _ (p : PolicyView) (u : UniverseView) (rs : List (List ℕ)) (l : LineVie
         | inr e ↦ inl (rw e.1 refl)
       ]) h)
 
--- ---- the account of an enumeration
+-- ---- the meter's bounds in an enumeration
 
 pub touched_split : (p : PolicyView) (u : UniverseView) (xs ys : List LineView) (n : ℕ) → AreTouched p u (xs ++ ys) n → (a : ℕ) × (b : ℕ) × AreTouched p u xs a × AreTouched p u ys b × (n ≡ a + b)
 touched_split p u [] ys n h = (0, n, refl, h, omega arith)
@@ -176,7 +176,7 @@ module _ (p : PolicyView) (u : UniverseView) (start : Place) (sought : ℕ) wher
   pub metered_on : (at : Place) (old seats : List Seat) (given m m' : ℕ) → IsMetered p u start sought at old given m → Costs 0 0 old seats m m' → IsMetered p u start sought at seats given m'
   metered_on at old seats given m m' h c = let same : given + 0 ≡ given = omega arith in rw same at (metered_more at old seats given 0 m m' h c)
 
-  -- lines without cursors are passed, with empty seats or others
+  -- lines are passed, with any seats, and nothing is read
   pub metered_skip : (at to : Place) (seats : List Seat) (given m : ℕ) (between : List LineView) → lines_from u at ≡ between ++ lines_from u to → IsMetered p u start sought at seats given m → IsMetered p u start sought to seats given m
   metered_skip at to seats given m between e h = record {
     total = h.total;

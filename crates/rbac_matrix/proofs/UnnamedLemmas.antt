@@ -1,4 +1,4 @@
--- namespaces where no RoleBinding names who asks
+-- namespaces where no RoleBinding names the principal
 use Rattle.std.proofs.Common.{◌≡◌, ◌≢◌, ◌+◌, ◌<◌, ◌≤◌, ◌⊎◌, ◌∷◌, ◌++◌, ◌∙◌, [], ℕ, List, Contains, ap, append_assoc, arith, drop, inl, inr, length, refl, slice_get, subst, subst₂, suc, sym}
 use Rattle.std.specs.Prelude.{None, Option, Some}
 use Rattle.std.specs.Cmp.Lexicographic.{slice_cmp}
@@ -26,11 +26,12 @@ use Rattle.rbac_matrix.proofs.IdleLemmas.{fewer_after_namespace, namespace_over}
 use Rattle.rbac_matrix.proofs.LineLemmas.{no_cursors}
 use Rattle.rbac_matrix.proofs.RowLemmas.{rows_append}
 
--- lists of one word are in the order of their words
+-- lists of one word compare as their words do
 one_word : (x y : Text) → slice_cmp text_cmp (x ∷ []) (y ∷ []) ≡ Less → text_cmp x y ≡ Less
 one_word x y l = less_alone (text_cmp x y) l
 
--- nobody is named in a namespace from one on, and before the next one where they are
+-- from a namespace on, and before the next one where a RoleBinding names the principal, no
+-- RoleBinding does
 unnamed_after : (x from : Text) → text_cmp x from ≡ Less → IsFrom from x → ⊥
 unnamed_after x from less (inl same) = let tied = tied_itself nat_list_cmp_total from in let both : text_cmp from from ≡ Less = subst (λ (t : Text). text_cmp t from ≡ Less) same less in cc
 unnamed_after x from less (inr greater) = let tied = tied_itself nat_list_cmp_total from in let both : text_cmp from from ≡ Less = nat_list_cmp_total.trans from x from greater less in cc
@@ -39,7 +40,7 @@ unnamed_before : (p : PolicyView) (asking : Who) (from x : Text) (o : Option Tex
 unnamed_before p asking from x None none before on named = unnamed_after x from (none x named) on
 unnamed_before p asking from x (Some found) next before on named = unnamed_after x from (next.none_before x named (before found refl)) on
 
--- a later namespace of a universe comes after
+-- a later namespace of a universe comes after an earlier one
 namespace_on : (u : UniverseView) → IsUniverse u → (i j : ℕ) (x y : Text) → i ≤ j → slice_get u.namespaces i ≡ Some x → slice_get u.namespaces j ≡ Some y → IsFrom x y
 namespace_on u is i j x y le mine theirs = elim (cases_eq i j) [
   | inl same ↦ inl (same_Some y x (sym theirs ∙ ap (slice_get u.namespaces) (sym same) ∙ mine))
@@ -63,8 +64,8 @@ module _ (u : UniverseView) (is : IsUniverse u) (at : Place) (l : LineView) (her
     later = λ j x le there. namespace_on u is at.namespace j l.namespace x (omega (arith, le)) here.namespace there;
   }
 
--- from one place up to another place of the principal there are only lines of namespaces where no
--- RoleBinding names them
+-- from one place up to another place of the principal, there are only lines of namespaces where no
+-- RoleBinding names the principal
 pub record PassesNamespaces (p : PolicyView) (u : UniverseView) (asking : Who) (from : Text) (at past : Place) : Type 0 where
   pub principal : past.principal ≡ at.principal
   pub passes : PassesUnnamed p u asking from at past
@@ -121,7 +122,8 @@ module _ (p : PolicyView) (u : UniverseView) (asking : Who) (from : Text) (at : 
             ];
           }
 
--- where somebody has no grants that may be live in one namespace, they have none in such others
+-- if a principal has no grants that may be live in one namespace, it has none in a namespace where
+-- no RoleBinding names it
 rowless_each : (h : Held) (u : UniverseView) (ls : List LineView) → ((l : LineView) → Contains ls l → AreRowsOf h (line_cells_from u 0 l) []) → AreRowsOf h (flat_map (line_cells_from u 0) ls) []
 rowless_each h u [] each = refl
 rowless_each h u (l ∷ ls) each = rows_append h (line_cells_from u 0 l) (flat_map (line_cells_from u 0) ls) [] [] (each l (first l ls)) (rowless_each h u ls (λ m w. each m (suc w.0, omega (arith, w.1), w.2)))

@@ -1,4 +1,4 @@
--- verbs that no cursor of who asks in a namespace has
+-- verbs that no cursor of a principal in a namespace has
 use Rattle.std.proofs.Common.{◌≡◌, ℕ, zero, suc, ◌+◌, ◌<◌, ◌≤◌, ◌⊎◌, ◌↔◌, List, [], ◌∷◌, length, refl, ◌∙◌, sym, ap, arith, subst, inl, inr}
 use Rattle.std.specs.Prelude.{Any, Some, codes, slice_get}
 use Rattle.std.proofs.lemmas.Bool.{cases_lt}
@@ -36,7 +36,7 @@ module _ (p : PolicyView) (u : UniverseView) (who : Who) (namespace : Text) (wor
         let e = line_here u (place at n v) (line who namespace verb.0) (record { principal = who_at; namespace = namespace_at; verb = verb.1 }) in
         (skips_line p.held u (place at n v) (place at n (v + 1)) (line who namespace verb.0) e (no_cursors p u (line who namespace verb.0) policy (are v verb.0 verb.1 lacks)), let few = ap length e in omega arith)
 
-    -- the lines of verbs that are lacking have no rows
+    -- the lines of verbs that the set lacks have no rows
     pub verbs_over : (m v : ℕ) → v + m ≤ length u.verbs → ((w : ℕ) → v ≤ w → w < v + m → LacksPlace words w) → Skips p.held u (place at n v) (place at n (v + m)) × (length (lines_from u (place at n v)) ≡ length (lines_from u (place at n (v + m))) + m)
     verbs_over zero v within lacks = let e : v + 0 ≡ v = omega arith in rw e (skips_same p.held u (place at n v) (place at n v) refl, omega arith)
     verbs_over (suc m) v within lacks =
@@ -49,7 +49,7 @@ module _ (p : PolicyView) (u : UniverseView) (who : Who) (namespace : Text) (wor
 pub runs_here : (p : PolicyView) (u : UniverseView) (at : Place) (l : LineView) (ls : List LineView) (runs : Runs) → lines_from u at ≡ l ∷ ls → AreRunsOf p u l runs → ServeBare p u l.who runs → AreRunsAt p u at runs
 runs_here p u at l ls runs here are bare m ms other = subst (λ (x : LineView). AreRunsOf p u x runs × ServeBare p u x.who runs) (same_head l m ls ms (sym here ∙ other)) (are, bare)
 
--- the verbs of a rule's first words
+-- the new set also has the verbs of the first `n` words of a rule
 pub record AddsFirst (n : ℕ) (ws verbs : List Text) (old new : List ℕ) : Type 0 where
   pub room : length new ≡ length old
   pub kept : (place : ℕ) → IsRoom old place → HasPlace old place → HasPlace new place
@@ -59,7 +59,7 @@ module _ (ws verbs : List Text) (old : List ℕ) where
   pub adds_none : AddsFirst 0 ws verbs old old
   adds_none = record { room = refl; kept = λ place within has. has; more = λ place k verb w within at lt. absurd (omega (arith, lt)) }
 
-  -- all words
+  -- all words were added
   pub adds_all : (r : Rule) (n : ℕ) (new : List ℕ) → ws ≡ r.verbs → length ws ≤ n → AddsFirst n ws verbs old new → AddsVerbs r verbs old new
   adds_all r n new is all adds = record {
     room = omega (arith, adds.room);
@@ -76,7 +76,7 @@ module _ (ws verbs : List Text) (old : List ℕ) where
         let word : v ≡ w = same_Some v w (sym (rw e at at_k) ∙ at_n) in
         elim ok [ inl star ↦ absurd (plain (sym word ∙ star)) | inr is ↦ sym is ∙ word ]
 
-    -- one more word, at that place of the verbs
+    -- one more word is added: a verb of the universe, at this place
     pub adds_found : (i : ℕ) → IsFoundAt text_cmp (λ x. x) verbs w i → ((place : ℕ) → IsRoom mid place → HasPlace new place ↔ ((place ≡ i) ⊎ HasPlace mid place)) → length new ≡ length mid → AddsFirst (n + 1) ws verbs old new
     adds_found i found is room = record {
       room = room ∙ adds.room;
@@ -87,7 +87,7 @@ module _ (ws verbs : List Text) (old : List ℕ) where
       ]);
     }
 
-    -- one more word, which is no verb
+    -- one more word is no verb of the universe
     pub adds_other : (i : ℕ) → IsGapAt text_cmp (λ x. x) verbs w i → AddsFirst (n + 1) ws verbs old mid
     adds_other i gap = record {
       room = adds.room;
@@ -98,14 +98,15 @@ module _ (ws verbs : List Text) (old : List ℕ) where
       ];
     }
 
--- what wasn't lacking isn't lacking later
+-- a place that the set didn't lack isn't lacking later
 pub still_had : (r : Rule) (verbs : List Text) (old new : List ℕ) → AddsVerbs r verbs old new → (before after : ℕ) → ((at : ℕ) → at < before → LacksPlace old at → ⊥) → ((at : ℕ) → before ≤ at → at < after → LacksPlace new at → ⊥) → (at : ℕ) → at < after → LacksPlace new at → ⊥
 still_had r verbs old new adds before after had later at lt lacks = elim (cases_lt at before) [
   | inl first ↦ had at first (omega (arith, lacks.0, adds.room), λ has. lacks.1 (adds.kept at lacks.0 has))
   | inr from ↦ later at from lt lacks
 ]
 
--- one more grant of a line was looked at: what is lacking now was lacking, and the grant doesn't have it
+-- one more grant of the line was looked at: what the set lacks now it lacked before, and the grant
+-- doesn't have that verb
 pub passes_grant : (p : PolicyView) (u : UniverseView) (l : LineView) (old new : List ℕ) (w v : Walk) (number : ℕ) (g : GrantView) → IsNextBound p l w v number → slice_get p.grants number ≡ Some g → AddsVerbs g.rule.rule u.verbs old new
     → ((at : ℕ) (verb : Text) → slice_get u.verbs at ≡ Some verb → LacksPlace old at → (k : ℕ) → IsCursorAt p (line l.who l.namespace verb) k → w.next ≤ k)
     → (at : ℕ) (verb : Text) → slice_get u.verbs at ≡ Some verb → LacksPlace new at → (k : ℕ) → IsCursorAt p (line l.who l.namespace verb) k → v.next ≤ k

@@ -1,4 +1,4 @@
--- walks by runs
+-- walks along runs
 use Rattle.std.proofs.Common.{◌≡◌, ℕ, length, ◌+◌, ◌<◌, ◌≤◌, ◌⊎◌, refl, ◌∙◌, sym, arith, inl, inr, subst, ap, Bool, List, [], ◌∷◌}
 use Rattle.std.specs.Prelude.{Option, Some, None, IsTrue, not, slice_get, drop, true, false}
 use Rattle.std.proofs.lemmas.Bool.{cases_eq, cases_lt}
@@ -71,12 +71,12 @@ module _ (p : PolicyView) (l : LineView) (runs : Runs) (old : Walk) (within : Is
       later = is.later;
     })
 
--- a cursor is bound
+-- `IsBoundOn` holds for each cursor
 pub cursor_bound : (p : PolicyView) (l : LineView) (k : ℕ) → IsCursorAt p l k → IsBoundOn p l k
 unfolding IsBoundOn
 cursor_bound p l k c = (c.grant, c.at, c.is.1, c.is.2)
 
--- cursors that aren't passed are this one, or still ahead
+-- each cursor that was ahead is this grant, or is still ahead
 pub comes_on : (p : PolicyView) (l : LineView) (w v : Walk) (here : ℕ) → ComesTo p l w v here → (other : ℕ) → IsAhead p l w other → (other ≡ here) ⊎ IsAhead p l v other
 comes_on p l w v here step other a = elim (cases_lt other here) [
   | inl lt ↦ absurd (step.first other a.1 lt (cursor_bound p l other a.0))
@@ -86,7 +86,7 @@ comes_on p l w v here step other a = elim (cases_lt other here) [
   ]
 ]
 
--- the verb of a line has no part in where its walks come
+-- where a walk comes to doesn't depend on the line's verb
 pub other_verb : (p : PolicyView) (l : LineView) (verb : Text) (w v : Walk) (number : ℕ) → ComesTo p l w v number → ComesTo p (line l.who l.namespace verb) w v number
 unfolding IsBoundOn
 other_verb p l verb w v number step = record { on = step.on; passed = step.passed; first = step.first }
@@ -95,7 +95,7 @@ pub bound_of_verb : (p : PolicyView) (l : LineView) (verb : Text) (k : ℕ) → 
 unfolding IsBoundOn
 bound_of_verb p l verb k bound = bound
 
--- a walk that comes to no other grant has no cursor ahead
+-- a walk with no further bound grant has no cursor ahead
 pub none_ahead : (p : PolicyView) (l : LineView) (w : Walk) → ((k : ℕ) → w.next ≤ k → k < length p.grants → IsBoundOn p l k → ⊥) → (k : ℕ) → IsAhead p l w k → ⊥
 none_ahead p l w none k a = let bound = cursor_bound p l k a.0 in none k a.1 (bound_within p l k bound) bound
 
@@ -107,7 +107,7 @@ module _ (p : PolicyView) (l : LineView) (w v : Walk) (no : ℕ) (step : IsNextB
   bound_ends = let lt = bound_within p l no step.1 in omega (arith, step.0.on, step.0.passed)
 
   module _ (g : GrantView) (at : slice_get p.grants no ≡ Some g) where
-    -- of a bound grant the verb decides
+    -- a bound grant is a cursor exactly if its rule has the verb
     pub bound_cursor : VerbOk g.rule.rule l.verb → IsCursorAt p l no
     bound_cursor ok =
         let b = bound_grant p l no step.1 in
@@ -126,7 +126,7 @@ module _ (p : PolicyView) (l : LineView) (w v : Walk) (no : ℕ) (step : IsNextB
         | inr later ↦ later.1
       ]
 
--- past the runs that are kept there are others only if they aren't all
+-- past the kept runs, there are other runs only if the kept ones aren't all
 module _ (p : PolicyView) (l : LineView) (runs : Runs) (at : ℕ) (past : length runs.kept.items ≤ at) where
   none_kept : drop at runs.kept.items ≡ []
   none_kept = drop_all at runs.kept.items past
@@ -138,12 +138,13 @@ module _ (p : PolicyView) (l : LineView) (runs : Runs) (at : ℕ) (past : length
   pub some_later : (from : ℕ) → runs.are_all ≡ false → AreRunsOn p l runs from (drop at runs.kept.items)
   some_later from e = subst (AreRunsOn p l runs from) (sym none_kept) (λ all. cc)
 
--- no grant is bound where there are no runs
+-- if there are no runs, no grant is bound
 pub none_bound : (p : PolicyView) (l : LineView) (runs : Runs) → (runs.kept.items ≡ []) × IsTrue runs.are_all → AreRuns p l runs → (k : ℕ) → IsBoundOn p l k → ⊥
 unfolding IsBoundOn
 none_bound p l runs none are k bound = subst (AreRunsOn p l runs 0) none.0 are none.1 k (omega arith) bound
 
--- a binding that is live in a namespace where it isn't is live in all
+-- a binding that may be live in a namespace and isn't one of its RoleBindings may be live in every
+-- namespace
 lives_elsewhere : (o : Option Text) (a b : Text) → (o ≡ Some a → ⊥) → LiveForSome o a → LiveForSome o b
 lives_elsewhere None a b ne lives = tt
 lives_elsewhere (Some n) a b ne lives = absurd (ne (ap (λ (t : Text). Some t) lives.1))
@@ -158,7 +159,7 @@ module _ (p : PolicyView) (ok : IsPolicy p) (who : Who) (a b : Text) (bare : ¬ 
       let ne : g.binding.namespace ≡ Some a → ⊥ = λ e. bare (of.0, g.binding, slice_get_within p.held.bindings of.0 g.binding there, get_or_from_slice_get p.held.bindings of.0 g.binding g.binding there, e) in
       (g, bound.1, bound.2, lives_elsewhere g.binding.namespace a b ne bound.3)
 
--- the runs in one namespace without a RoleBinding are those in another
+-- a principal has the same runs in any two namespaces without a RoleBinding
 module _ (p : PolicyView) (ok : IsPolicy p) (who : Who) (a b : Text) (bare : ¬ HasRoleBindings p.held a) (other : ¬ HasRoleBindings p.held b) where
   next_elsewhere : (from start end : ℕ) → IsNextRun p who a from start end → IsNextRun p who b from start end
   next_elsewhere from start end is = record {
@@ -173,7 +174,7 @@ module _ (p : PolicyView) (ok : IsPolicy p) (who : Who) (a b : Text) (bare : ¬ 
   runs_elsewhere are_all from [] are = λ all n low bound. are all n low (bound_elsewhere p ok who b a other n bound)
   runs_elsewhere are_all from (run ∷ runs) are = (next_elsewhere from run.start run.end are.0, runs_elsewhere are_all run.end runs are.1)
 
--- and so are the verbs that they have
+-- so the principal's cursors have the same verbs in both
 verbs_elsewhere : (p : PolicyView) (u : UniverseView) → IsPolicy p → (who : Who) (a b : Text) (words : List ℕ) → (¬ HasRoleBindings p.held b) → AreVerbs p u who a words → AreVerbs p u who b words
 unfolding IsBoundOn
 verbs_elsewhere p u ok who a b words other are at verb is lacks k c =
@@ -188,7 +189,8 @@ serve_bare p u ok l runs bare are = λ is namespace verb other. (
   are.2,
 )
 
--- another line of a namespace has the runs of this one, and one of another namespace may have them
+-- what is known of a line's runs at another line of the same namespace: they are that line's runs
+-- too
 pub known_at : (p : PolicyView) (u : UniverseView) (at : Place) (l : LineView) (runs : Runs) (verb : ℕ) → IsLineAt u at l → AreRunsOf p u l runs → ServeBare p u l.who runs → AreKnownAt p u (place at.principal at.namespace verb) runs
 known_at p u at l runs verb here are bare = record {
   verbs = λ later m there.
@@ -213,7 +215,7 @@ known_moved p u at to runs (inr (none, inr same)) known = record {
   told = known.told;
 }
 
--- and so at the first line of the next namespace
+-- what is known of a line's runs at the first line of another namespace, or of another principal
 pub known_past : (p : PolicyView) (u : UniverseView) (at to : Place) (l : LineView) (runs : Runs) → IsLineAt u at l → ServeBare p u l.who runs → KeepGrantVerbs p u runs → to.verb ≡ 0 → (to.namespace ≡ 0) ⊎ (to.principal ≡ at.principal) → AreKnownAt p u to runs
 known_past p u at to l runs here bare told none (inl first) = record {
   verbs = λ later. absurd (omega (arith, none, later));

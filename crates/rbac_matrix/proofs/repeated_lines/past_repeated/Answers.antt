@@ -22,7 +22,7 @@ first_verb : (at to : Place) → at.verb ≡ 0 → IsMoved at to → to.verb ≡
 first_verb at to e (inl same) = rw same e
 first_verb at to e (inr moved) = moved.0
 
--- past the lines of namespaces where nobody is named
+-- the lines of namespaces where no RoleBinding names the principal are passed
 onward : (p : PolicyView) (u : UniverseView) (first at past to : Place) (who : Who) (namespace : Text) → namespace ≢ [] → PassesRepeated p u first at → PassesUnnamed p u who namespace at past → lines_from u to ≡ lines_from u past → PassesRepeated p u first to
 onward p u first at past to who namespace some before unnamed same = repeated_then p u first at to before (repeated_then p u at past to (repeated_from p u who namespace at past some unnamed) (repeated_none p u past to same))
 

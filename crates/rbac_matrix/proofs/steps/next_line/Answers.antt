@@ -76,7 +76,7 @@ renew-requires-clause-bare c = λ later. c.loop-line.invariant.known.bare later 
 pub returns-then-filled-gt0-clause-blocks : goal.returns-then-filled-gt0-clause-blocks
 returns-then-filled-gt0-clause-blocks c = blocks_here c.args.basis.index.now c.args.basis.universe.now c.loop-line.at (line_of c.in-Some.line) _ (record { runs = c.renew.new.runs; blocks = c.fill.new.self }) c.seat_line-filled.new.seats c.in-Some.ensures.line c.fill.ensures
 
--- the lines up to the next verb that may be had
+-- the lines of verbs that no grant has are passed, up to the next verb
 passed : (p : PolicyView) (u : UniverseView) → IsPolicy p → (at to : Place) (l : LineView) (runs : Runs) → IsLineAt u at l → AreRunsOf p u l runs → to ≡ place at.principal at.namespace to.verb → at.verb < to.verb → to.verb ≤ length u.verbs → LacksPlace runs.verbs.words.items at.verb → ((v : ℕ) → at.verb < v → v < to.verb → LacksPlace runs.verbs.words.items v) → Skips p.held u at to × (length (lines_from u to) < length (lines_from u at))
 passed p u policy at to l runs here are is on within first others =
     let lacks : (w : ℕ) → at.verb ≤ w → w < at.verb + (to.verb - at.verb) → LacksPlace runs.verbs.words.items w = λ w low high. elim (cases_eq w at.verb) [

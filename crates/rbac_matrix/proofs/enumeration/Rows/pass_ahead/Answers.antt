@@ -19,7 +19,7 @@ pass_lines-requires-clause-rest c =
     let some : l.namespace ≢ [] = λ none. both_ways _ c.if-is_empty.false (c.is_empty.ensures.1 none) in
     (l, _, c.in-Some.ensures.line, λ place low high. c.repeats_end-end.ensures.repeats l _ c.in-Some.ensures.line some place low (omega (arith, high, ap length c.targets.ensures.targets, length-map c.args.self.now.universe.now.targets (λ (t : Listed). t.0))))
 
--- the repeats up to the next entry of a RoleBinding
+-- up to this place the line has only repeats
 ahead : (c : goal.After-pass_to) → HasRepeatsFrom c.args.self.now.index.now c.args.self.now.universe.now (line_of c.in-Some.line) c.args.self.now.from c.pass_to.new.self.from
 ahead c = λ place low high. c.repeats_end-end.ensures.repeats (line_of c.in-Some.line) _ c.in-Some.ensures.line (λ none. both_ways _ c.if-is_empty.false (c.is_empty.ensures.1 none)) place low (omega (arith, high, c.pass_to.ensures.place.1))
 

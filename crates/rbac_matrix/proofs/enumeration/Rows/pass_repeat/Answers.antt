@@ -34,7 +34,7 @@ returns-then-not-repeats_by-clause-few c = passes_few c.args.self.now c.come.new
 pub returns-then-not-repeats_by-clause-first : goal.returns-then-not-repeats_by-clause-first
 returns-then-not-repeats_by-clause-first c = λ none. come_first c.args.self.now c.come.new.self c.requires.policy c.come.ensures.same c.in-Some.field-0-0 c.in-Some.no c.in-Some.ensures.place c.in-Some.ensures.found c.requires.universe c.repeats_by.result c.repeats_by.ensures.repeats search
 
--- the row is passed alone
+-- only this row is passed
 over : (c : goal.After-pass_to) → Passes c.come.new.self.index.now.held (cells c.come.new.self) (cells c.pass_to.new.self) (row c.args.self.now c.come.new.self c.requires.policy c.come.ensures.same c.in-Some.field-0-0 c.in-Some.no c.in-Some.ensures.place c.in-Some.ensures.found ∷ [])
 over c = come_over c.args.self.now c.come.new.self c.requires.policy c.come.ensures.same c.in-Some.field-0-0 c.in-Some.no c.in-Some.ensures.place c.in-Some.ensures.found c.pass_to.new.self c.pass_to.ensures.same c.pass_to.ensures.place.0 (omega (arith, c.pass_to.ensures.place.1))
 

@@ -9,7 +9,7 @@ use Rattle.rbac_matrix.specs.declared.enumeration.Rows.{Rows}
 use Rattle.rbac_matrix.proofs.RepeatedLemmas.{past_unfit, repeats_before}
 use Rattle.rbac_matrix.proofs.enumeration.Rows.repeats_end.Goals as goal
 
--- up to a place that comes no later than each of a RoleBinding's entries
+-- up to a place that isn't after any entry of a RoleBinding, the line has only repeats
 module _ (s : Rows) (way : IsGoing s) (place : ℕ) (least : (i : ℕ) → i < length s.kept.blocks.kept.items → s.cluster_wide < (block_at s.kept.blocks.kept.items i).end → place ≤ (block_at s.kept.blocks.kept.items i).place) (to : ℕ) (real : to ≤ past_all) (early : to ≤ place) where
   before : (l : LineView) (ls : List LineView) → lines_from s.universe.now s.at ≡ l ∷ ls → l.namespace ≢ [] → HasRepeatsFrom s.index.now s.universe.now l s.from to
   before l ls e some = repeats_before s.index.now way.policy s.universe.now s.reaches.now l way.universe way.reaches some s.from 0 refl s.seats.now (way.ready.seated l ls e) s.kept.runs s.kept.blocks.kept.items (way.blocks l ls e) s.cluster_wide way.cluster_wide to real (λ i lt first. omega (arith, early, least i lt first))
