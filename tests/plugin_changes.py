@@ -267,7 +267,8 @@ def counts(it):
     it.write(json.dumps({**ROLE, 'apiVersion': V1 + 'alpha1'}), 'c', '0.json')
     it.expect('a bad version', ['diff', '--export', 'prod', '--with', 'c/0.json'], 2, '',
               read('c/0.json') + OVER % 'c/0.json' + 'rbacaudit: file 3 item 1: M3 bad version\n'
-              + culprit(3, 'c/0.json', 1, 'ClusterRole shop-view-secrets'))
+              + culprit(3, 'c/0.json', 1, 'ClusterRole shop-view-secrets')
+              + 'kubectl-rbacaudit: the apiVersion of item 1 is rbac.authorization.k8s.io/v1alpha1: of this API group, rbacaudit reads v1 and v1beta1\n')
 
 
 # Names that a walk over JSON could trip over, and how a line of diff has each.

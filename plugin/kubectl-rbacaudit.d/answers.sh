@@ -187,6 +187,7 @@ report_fault() {
     number=$(sed -n 's/^rbacaudit: file \([0-9][0-9]*\)[: ].*/\1/p' "$scratch/said")
     item=$(sed -n 's/^rbacaudit: file [0-9]* item \([0-9][0-9]*\): .*/\1/p' "$scratch/said")
     [ -z "$number" ] || name_file "$number" "$@"
+    ! grep -q '^rbacaudit: M11 ' "$scratch/said" || advise_on_grants
 }
 
 # The command itself is the first place; VERB and TARGET are two more, and WHO is one.
@@ -213,10 +214,7 @@ name_file() {
             ;;
     esac
     report "file $number is $found$culprit"
-    case $path in
-        "$scratch"/*) ;;
-        *) advise "$path" "$fault" ;;
-    esac
+    advise "$path" "$fault" "$item"
 }
 
 # The same for a list of manifests: with the path that it was read from, and the file that the object stands in.
@@ -280,7 +278,7 @@ EOF
     [ "$answered" -gt 1 ] || return 0
     cat "$scratch/said" >&2
     [ -z "$dashed" ] || report "if ${dashed#*=} is the value of ${dashed%%=*}, write $dashed"
-    advise_on_who "$@"
+    advise_on_words "$@"
     exit "$answered"
 }
 

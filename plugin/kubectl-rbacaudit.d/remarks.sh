@@ -67,11 +67,16 @@ walk() {
     fold -b -w 2000 <"$walked" | LC_ALL=C awk "$@" "$program"
 }
 
+# An awk function that says whether what is read belongs to an item of the document, or to the
+# document itself for item 0.
+ONE_ITEM=$JSON_WALK'
+function is_asked() { return base() == (item ? 3 : 1) && (!item || place[2] == item) }
+'
+
 # Prints kind, namespace and name of an item of standard input, or of the document itself for item
 # 0. It reads to the end, since of members with one name the last counts; where a member's name has
 # an escape, and so may be another's, it prints nothing.
-OBJECT_AT=$JSON_WALK'
-function is_asked() { return base() == (item ? 3 : 1) && (!item || place[2] == item) }
+OBJECT_AT=$ONE_ITEM'
 function on_field() {
     if (item && depth == 1 && field[1] == "items") kind = name = namespace = ""
     if (is_asked() && depth == base() && field[depth] == "metadata") name = namespace = ""
@@ -93,13 +98,14 @@ END {
 }'
 
 # Prints a line for each document of standard input that is meant to be a Universe document and is
-# none, and for each field that such a document doesn't have.
+# none, and for each field that such a document doesn't have. (rbacaudit refuses one without a version)
 UNIVERSE_FAULTS=$JSON_WALK'
 BEGIN { known = " apiVersion kind metadata principals namespaces verbs names resources urls "
     of["principals"] = " user groups group "; of["resources"] = " group resource namespaced " }
 function on_field(    top) {
     top = base()
-    if (depth == 1 && field[1] == "items") { count = 0; kind = version = ""; return }
+    if (depth == 1 && field[1] == "items") { count = 0; kind = version = has_version = ""; return }
+    if (depth == top && field[depth] == "apiVersion") has_version = 1
     if (depth == top && !index(known, " " field[depth] " "))
         said[++count] = "a Universe document has no field " field[depth] ", so it is ignored"
     if (depth == top + 2 && is_list[top + 1] && (field[top] in of) &&
@@ -116,10 +122,10 @@ function on_end(    at) {
         tell("a Universe document is ignored in a change, of which all requests are compared")
     else if (kind == "Universe" && version == "rbacaudit/v1")
         for (at = 1; at <= count; at++) tell(said[at])
-    else if (kind == "Universe" || version ~ /^rbacaudit/)
+    else if (has_version && (kind == "Universe" || version ~ /^rbacaudit/))
         tell("a document of the version " version " and the kind " kind " is ignored: " \
             "a Universe document has rbacaudit/v1 and Universe")
-    count = 0; kind = version = ""
+    count = 0; kind = version = has_version = ""
 }
 function tell(line) { if (!told[line]++) print line }
 '
@@ -268,9 +274,9 @@ and these lines have what they gather"
 # Lints files with a list of manifests behind them: the first words are its name, and the codes.
 lint_over() {
     over=$scratch/lists/$1.json
-    codes=$2
+    looked_for=$2
     shift 2
-    rbacaudit lint "--only=$codes" "$@" "$over"
+    rbacaudit lint "--only=$looked_for" "$@" "$over"
 }
 
 # Reports what of the manifests that are taken away the export doesn't have: what both have is replaced for lint.

@@ -26,7 +26,7 @@ read_word() {
             --help) help=yes ;;
             --as | --groups | --group | --namespace | --subresource | --limit | --only | --steps) awaits=$1 ;;
             --after) [ "$command" = diff ] || awaits=$1 ;;
-            --as=* | --groups=* | --group=* | --namespace=* | --subresource=*)
+            --as=* | --groups=* | --group=* | --namespace=* | --subresource=* | --only=*)
                 take_value "${1%%=*}" "${1#*=}"
                 ;;
             --all-namespaces) everywhere=yes ;;
@@ -53,6 +53,7 @@ take_value() {
             has_namespace=yes
             ;;
         --subresource) subresource=$2 ;;
+        --only) codes=$2 ;;
     esac
 }
 
