@@ -1,5 +1,6 @@
-// Whom somebody can come to, by `rbacaudit paths`, and who can come to a request, by `who-can
-// --indirect`. Each line leads to another: up to whoever is asked about, or down to the request.
+// Whom somebody can take over, by `rbacaudit paths`, and who is allowed a request or can take over
+// somebody who is, by `who-can --indirect`. Each line leads to another: up to whoever is asked
+// about, or down to the request.
 
 const PATH_FIELDS = ['steps', 'who', 'where', 'from', 'from_where', 'step', 'binding', 'role',
     'source', 'rule', 'subject'];
@@ -115,8 +116,8 @@ function namesNodes(names, most) {
 function emptyNodes() {
     const {empty} = PAGE.paths;
     return empty.length ? [make('p', {class: 'why empty'}, namesNodes(empty, 20),
-        empty.length > 1 ? ' are empty: by these answers nobody comes to anybody or anything.'
-            : ' is empty: by this answer nobody comes to anybody or anything.')] : [];
+        empty.length > 1 ? ' are empty: by these answers nobody can take over anybody or anything.'
+            : ' is empty: by this answer nobody can take over anybody or anything.')] : [];
 }
 
 // How far the lines of an answer reach, in words.
@@ -128,15 +129,15 @@ function reachText({reach: {counts, everything, places}}) {
 }
 
 // A link to the paths of a principal, if the page has any.
-function comesTo(who) {
+function takesOver(who) {
     const answer = PATHS.find(it => it.who === who);
-    return answer ? [' ', anchor('paths', {who}, 'Comes to ' + reachText(answer))] : [];
+    return answer ? [' ', anchor('paths', {who}, 'Can take over ' + reachText(answer))] : [];
 }
 
-// ---- how far principals come
+// ---- what principals can take over
 
-// Those who come to everything in the whole cluster, fewest steps first.
-function whoComeToEverything() {
+// Those who can take over everything in the whole cluster, fewest steps first.
+function whoTakeOverEverything() {
     return PATHS.filter(it => it.reach.everything !== undefined)
         .sort((a, b) => a.reach.everything - b.reach.everything);
 }
@@ -144,22 +145,22 @@ function whoComeToEverything() {
 class PathsView {
     constructor() {
         this.shown = [];
-        this.sheet = new Sheet('How far principals come', [head('Principal'),
-            head('Everything in', 'Where they come to everything'),
+        this.sheet = new Sheet('What principals can take over', [head('Principal'),
+            head('Everything in', 'Where they can take over everything'),
             ...Object.entries(KINDS).map(([kind, title]) => head(title,
-                `How many ${kind}s they come to`, 'number')),
-            head('In all', 'All that they come to', 'number'),
+                `How many ${kind}s they can take over`, 'number')),
+            head('In all', 'All that they can take over', 'number'),
             head('Most steps', 'To what is farthest', 'number')], at => this.row(this.shown[at]),
         'reach');
         this.summary = muted();
         this.list = make('div', {class: 'view'}, make('div', {class: 'tools'},
-            make('h2', {}, 'How far principals come'),
+            make('h2', {}, 'What principals can take over'),
             filterInput('Filter principals', 'q', 'filter principals'), this.summary),
-        make('p', {class: 'why'}, 'By rbacaudit paths: whom and what each principal can come to, step '
-            + 'by step. Whoever comes to everything in the whole cluster is listed first. Whoever '
-            + 'isn’t listed comes to nobody and nothing, or wasn’t asked about.'), emptyNodes(),
-        this.sheet.element);
-        this.detail = new AnswerView('paths', ['Comes to', 'Last step', 'From']);
+        make('p', {class: 'why'}, 'By rbacaudit paths: whom and what each principal can take over, '
+            + 'step by step. Whoever can take over everything in the whole cluster is listed first. '
+            + 'Whoever isn’t listed can take over nobody and nothing, or wasn’t asked about.'),
+        emptyNodes(), this.sheet.element);
+        this.detail = new AnswerView('paths', ['Can take over', 'Last step', 'From']);
         this.element = make('div', {class: 'view'});
     }
 
@@ -174,7 +175,7 @@ class PathsView {
         const wants = wantedBy(params.q || '');
         const others = PATHS.filter(it => it.reach.everything === undefined)
             .sort((a, b) => b.length - a.length);
-        this.shown = [...whoComeToEverything(), ...others].filter(({who}) => wants(who, 'who'));
+        this.shown = [...whoTakeOverEverything(), ...others].filter(({who}) => wants(who, 'who'));
         this.summary.textContent = counted(this.shown.length, 'principal');
         this.sheet.show(this.shown.length);
     }
@@ -192,7 +193,7 @@ class PathsView {
     }
 }
 
-// ---- who comes to a request
+// ---- who can indirectly do what is asked for
 
 class RequestsView {
     constructor() {
@@ -256,15 +257,15 @@ class AnswerView {
         const about = this.isOfRequest ? [make('bdi', {}, nodesOf(this.answer?.file
             || 'no such file'))] : principalNodes(who);
         return !length ? about : this.isOfRequest
-            ? [...nodeNodes(node), muted(' comes to '), ...about]
-            : [...about, muted(' comes to '), ...nodeNodes(node)];
+            ? [muted('Path of '), ...nodeNodes(node), muted(' to '), ...about]
+            : [...about, muted(' can take over '), ...nodeNodes(node)];
     }
 
     summaryText({who, node}, length) {
         const {answer, isOfRequest} = this;
         if (!answer) {
             return isOfRequest ? 'This page has no such file.' : 'This page has no path of them: they '
-                + 'come to nobody and nothing, or weren’t asked about.'
+                + 'can take over nobody and nothing, or weren’t asked about.'
                 + (isKey(who) ? '' : ' A principal is written u:NAME or g:NAME.');
         }
         if (node) {
@@ -272,8 +273,9 @@ class AnswerView {
             return length ? counted(steps, 'step') + '.' : 'No path of this page leads there.';
         }
         const most = `in at most ${counted(answer.most, 'step')}`;
-        return isOfRequest ? 'May do what this file is about, or come to somebody or something that '
-            + `may, ${most}: ${reachText(answer)}.` : `They come to ${reachText(answer)}, ${most}.`;
+        return isOfRequest ? 'May do what this file is about, or can take over somebody or something '
+            + `that may, ${most}: ${reachText(answer)}.`
+            : `They can take over ${reachText(answer)}, ${most}.`;
     }
 
     linkNodes({who, node}) {
@@ -314,20 +316,20 @@ function otherNodes(row) {
 
 // ---- in the watch list
 
-const COMING = {id: 'comes', title: 'Comes to everything (*)'};
+const COMING = {id: 'comes', title: 'Can take over everything (*)'};
 
 function comingTile(jump) {
     return make('li', {}, make('a', {href: link('watch', {at: COMING.id}), click: jump},
-        make('b', {}, figure(whoComeToEverything().length)), make('span', {}, COMING.title),
+        make('b', {}, figure(whoTakeOverEverything().length)), make('span', {}, COMING.title),
         make('small', {class: 'muted'}, `of ${counted(PATHS.length, 'principal')} with paths`)));
 }
 
 function comingSection() {
-    const found = whoComeToEverything();
+    const found = whoTakeOverEverything();
     return make('section', {id: 'watch-' + COMING.id, 'aria-labelledby': 'title-' + COMING.id},
         make('h3', {id: 'title-' + COMING.id}, COMING.title, ' ', muted(figure(found.length))),
-        make('p', {class: 'why'}, 'Comes to everything in the whole cluster, step by step, by '
-            + 'rbacaudit paths; whoever has everything does so in one step. Only principals count '
+        make('p', {class: 'why'}, 'Can take over everything in the whole cluster, step by step, by '
+            + 'rbacaudit paths; whoever has everything can do so in one step. Only principals count '
             + 'whose paths this page has. ', anchor('paths', {}, 'All paths')),
         found.length ? plainTable(COMING.title, ['Principal', 'Steps', 'Path', 'Bindings'], found,
             it => comingCells(it)) : make('p', {}, 'Nobody, by the paths of this page.'));

@@ -209,7 +209,7 @@ class PrincipalView {
                 + (it ? '; the watch list has what they may do only by name.' : '.')
                 + (isKey(params.who) ? '' : ' A principal is written u:NAME or g:NAME.');
             this.hidden.hidden = true;
-            this.links.replaceChildren(...comesTo(params.who));
+            this.links.replaceChildren(...takesOver(params.who));
             this.shown = [];
             this.sheet.show(0);
             return;
@@ -217,7 +217,7 @@ class PrincipalView {
         this.summary.textContent = this.counts(it);
         this.links.replaceChildren(anchor('rows', {who: '=' + it.word,
             namespace: this.scope.isAll ? '' : '=' + this.scope.word}, 'All rows'),
-            ...comesTo(it.word));
+            ...takesOver(it.word));
         it.lines ||= linesOf(it.rows, row => this.scope.placeOf(row));
         this.show(it.lines, params);
     }

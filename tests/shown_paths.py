@@ -1,4 +1,4 @@
-"""Pages in a browser: whom principals come to, and who comes to a request, step by step."""
+"""Pages in a browser: whom principals can take over, and who can do what a request is about, step by step."""
 
 import json
 import os
@@ -13,7 +13,7 @@ from written import (DEVS, KIM, NAMES, OPS, READERS, SMALL, file_of, made, path_
 
 CI, CI_ROLE = 'account dev:ci', ['RoleBinding/dev/debug', 'Role/dev/debug', 'Role/dev/debug', '1', '2']
 ALL = 'everything in the whole cluster'
-# Who comes to everything in the whole cluster of examples/cluster, and in how many steps, as
+# Who can take over everything in the whole cluster of examples/cluster, and in how many steps, as
 # docs/RECIPES.md has them.
 RICH = {'g:platform': 1, 'g:system:masters': 1, 'u:dana@example.com': 1,
         'u:system:serviceaccount:ci:onboarding': 1,
@@ -37,12 +37,13 @@ def with_paths(it, room, name, *files, rows=SMALL):
 
 
 def seen_list(page):
-    """How far each principal comes: who comes to everything first, and then who comes to most."""
+    """What each principal can take over: who can take over everything first, and then who the most."""
     page.go('#paths')
-    same('paths: how far they come', page.cells(), [
+    same('paths: what they can take over', page.cells(), [
         ['user kim', 'whole cluster in 2 steps', '1', '–', '1', '–', '3', '2'],
         ['group devs', 'dev', '–', '–', '2', '–', '3', '2'],
         ['group ops', '–', '–', '–', '1', '1', '2', '2']])
+    same('paths: the heading', page.text('main h2'), 'What principals can take over')
     same('paths: how many', page.text('main .tools .muted'), '3 principals')
     same('paths: the tab counts the lines', page.texts('nav a')[4:], ['Paths 8'])
     page.type_into('main .tools input', 'OPS')
@@ -59,11 +60,12 @@ def seen_list(page):
 def seen_answer(page):
     """The lines of a principal, and where each leads."""
     page.go('#paths?who=u:kim')
+    same('paths: the heads of one', page.texts('.answer thead th'), ['Steps', 'Can take over', 'Last step', 'From', 'Binding', 'Role'])
     same('paths: the lines of one', page.cells(), [
         ['1', CI, 'exec', 'user kim', 'RoleBinding/dev/debug', 'Role/dev/debug'],
         ['2', ALL, 'bind', CI, 'ClusterRoleBinding/ci', 'ClusterRole/all'],
         ['2', 'user lee', 'impersonate', CI, 'ClusterRoleBinding/ci', 'ClusterRole/ci']])
-    same('paths: how far', page.text('main p.muted'), 'They come to everything in the whole cluster, '
+    same('paths: how far', page.text('main p.muted'), 'They can take over everything in the whole cluster, '
          '1 user, 1 service account, in at most 2 steps.')
     same('paths: somebody without rows has no other link', page.texts('main .tools a'), [])
     same('paths: the title of the page', page.it.do('document.title'), 'kim · Paths · Who can do what')
@@ -71,7 +73,7 @@ def seen_answer(page):
     same('paths: lines filtered', [row[1] for row in page.cells()], ['user lee'])
     page.go('#paths?who=g:devs')
     same('paths: everything in a namespace', page.text('main p.muted'),
-         'They come to everything in 1 namespace, 2 service accounts, in at most 2 steps.')
+         'They can take over everything in 1 namespace, 2 service accounts, in at most 2 steps.')
     page.click('document.querySelectorAll(".answer tbody a")[2]')
     same('paths: a line leads to its path', page.hash(),
          '#paths?who=g:devs&node=u:system:serviceaccount:dev:web\t-')
@@ -81,7 +83,7 @@ def seen_path(page):
     """A path, step by step, each with its word and why."""
     page.go('#paths?who=u:kim&node=*%09*')
     same('path: whose and where', page.texts('main h2, main h2 + p'),
-         ['user kim comes to ' + ALL, '2 steps.'])
+         ['user kim can take over ' + ALL, '2 steps.'])
     same('path: its heads', page.texts('.steps th'), ['', 'Who or what', 'Step', 'Takes over', 'Binding',
                                                       'Role', 'Source', 'Rule', 'Subject'])
     same('path: its steps', page.cells('.steps'), [
@@ -101,9 +103,9 @@ def seen_path(page):
         same('path: the last step of %s' % who, page.cells('.steps')[1:], [last])
     for address, said in (
             ('who=u:kim&node=u:nobody%09-', 'No path of this page leads there.'),
-            ('who=u:lee', 'This page has no path of them: they come to nobody and nothing, or weren’t '
+            ('who=u:lee', 'This page has no path of them: they can take over nobody and nothing, or weren’t '
              'asked about.'),
-            ('who=lee', 'This page has no path of them: they come to nobody and nothing, or weren’t '
+            ('who=lee', 'This page has no path of them: they can take over nobody and nothing, or weren’t '
              'asked about. A principal is written u:NAME or g:NAME.')):
         page.go('#paths?' + address)
         same('path: %s' % address, (page.text('main h2 + p'), page.cells(), page.cells('.steps')),
@@ -111,11 +113,11 @@ def seen_path(page):
 
 
 def seen_watch(page):
-    """The watch list counts who comes to everything in the whole cluster, in a namespace too."""
+    """The watch list counts who can take over everything in the whole cluster, in a namespace too."""
     for place in ('', '?ns=dev'):
         page.go('#watch' + place)
-        same('watch%s: who comes to everything' % place, page.it.do(COUNTS)[11:],
-             [['1', 'Comes to everything (*)', 'of 3 principals with paths']])
+        same('watch%s: who can take over everything' % place, page.it.do(COUNTS)[11:],
+             [['1', 'Can take over everything (*)', 'of 3 principals with paths']])
         same('watch%s: how' % place, page.cells('#watch-comes'), [
             ['user kim', '2', 'exec → account dev:ci, bind → everything in the whole cluster; why',
              'RoleBinding/dev/debug, ClusterRoleBinding/ci']])
@@ -132,7 +134,7 @@ def seen_elsewhere(page):
          ('#paths?who=g:devs', 'What they have'))
     page.go('#who?who=u:kim')
     same('who: somebody without rows has paths', page.texts('main .tools a'),
-         ['Comes to everything in the whole cluster, 1 user, 1 service account'])
+         ['Can take over everything in the whole cluster, 1 user, 1 service account'])
     page.go('#who?who=u:ann')
     same('who: somebody without paths', page.texts('main .tools a'), ['All rows'])
     page.go('#find?q=kim')
@@ -180,7 +182,7 @@ def shown_role(it, room):
 
 
 def shown_requests(it, room):
-    """Who comes to a request, by the lines of who-can --indirect; one of several files is chosen."""
+    """Who can do what a request is about, by the lines of who-can --indirect; one of several files is chosen."""
     page = with_paths(it, room, 'requests', ('read secrets', READERS), ('run pods', READERS[:1]))
     same('requests: the tabs', page.texts('nav a')[4:], ['Who can indirectly 6'])
     page.go('#requests')
@@ -192,11 +194,11 @@ def shown_requests(it, room):
         ['1', 'user lee', 'token', db, 'RoleBinding/prod/lee', 'Role/prod/lee'],
         ['2', 'user kim', 'impersonate', 'user lee', 'ClusterRoleBinding/kim', 'ClusterRole/kim']])
     same('requests: the file, and how far', page.texts('main h2, main h2 + p'), [
-        'read secrets', 'May do what this file is about, or come to somebody or something that may, in at '
+        'read secrets', 'May do what this file is about, or can take over somebody or something that may, in at '
         'most 2 steps: 2 users, 1 group, 1 service account, 1 role.'])
     page.click('[...document.querySelectorAll(".answer tbody a")].at(-1)')
     same('requests: a path', (page.hash(), page.texts('main h2, main h2 + p')),
-         ('#requests?node=u:kim\t-', ['user kim comes to read secrets', '2 steps.']))
+         ('#requests?node=u:kim\t-', ['Path of user kim to read secrets', '2 steps.']))
     same('requests: its steps', page.cells('.steps'), [
         ['1', 'user kim', 'impersonate', 'user lee', 'ClusterRoleBinding/kim', 'ClusterRole/kim',
          'ClusterRole/kim', '1', '1'],
@@ -214,15 +216,15 @@ def shown_requests(it, room):
     same('requests: no such file', page.texts('main h2, main h2 + p'),
          ['no such file', 'This page has no such file.'])
     page.go('#watch')
-    same('requests: nobody was asked who comes to everything', len(page.it.do(COUNTS)), 11)
+    same('requests: nobody was asked who can take over everything', len(page.it.do(COUNTS)), 11)
     headed(page, 'requests', 'requests?node=u:kim%09-')
     page.is_quiet()
 
 
 def empty_paths(it, room):
-    """A file without lines says that nobody comes to anybody, and many are cut."""
-    one = ' is empty: by this answer nobody comes to anybody or anything.'
-    many = ' are empty: by these answers nobody comes to anybody or anything.'
+    """A file without lines says that nobody can take over anybody, and many are cut."""
+    one = ' is empty: by this answer nobody can take over anybody or anything.'
+    many = ' are empty: by these answers nobody can take over anybody or anything.'
     for name, files, view, wanted in (
             ('one', [('none', [])], 'paths', ['none' + one]),
             ('two', [('none', []), ('no <b>one', []), ('kim', KIM)], 'paths', ['none, no <b>one' + many]),
@@ -237,8 +239,8 @@ def empty_paths(it, room):
     page.go('#paths')
     same('no lines at all: nobody is listed', page.cells(), [])
     page.go('#watch')
-    same('no lines at all: nobody comes to everything', (page.it.do(COUNTS)[11:], page.texts(
-        '#watch-comes p')[1:]), ([['0', 'Comes to everything (*)', 'of 0 principals with paths']],
+    same('no lines at all: nobody can take over everything', (page.it.do(COUNTS)[11:], page.texts(
+        '#watch-comes p')[1:]), ([['0', 'Can take over everything (*)', 'of 0 principals with paths']],
                                  ['Nobody, by the paths of this page.']))
     page.is_quiet()
     page = Shown(it, room, 'without', made(SMALL)[1])
@@ -266,7 +268,7 @@ def hostile_paths(it, room):
                 for row in page.cells('.steps')]
         role = 'Role/%s/%s' % (inner, inner)
         same('hostile: whose path of %.40s' % name, page.text('main h2'),
-             'group %s comes to %s' % (shown, ALL))
+             'group %s can take over %s' % (shown, ALL))
         same('hostile: a path of %.40s' % name, [row[1:4] for row in rows], [
             ['group ' + inner, 'bind', '%s in %s' % (role, inner)],
             ['%s in %s' % (role, inner), 'run', 'user ' + inner], ['user ' + inner, 'bind', ALL]])
@@ -294,7 +296,7 @@ def is_safe(page, name):
 
 
 def example_paths(it, room):
-    """The paths of examples/cluster, by the definition: who comes to everything, and each path."""
+    """The paths of examples/cluster, by the definition: who can take over everything, and each path."""
     given = read_files([os.path.join(TOP, 'examples', 'cluster', name + '.json')
                         for name in ('cluster', 'namespaced', 'accounts')])
     answers = {who: [*paths(given, who)] for who in sorted({line.split('\t')[1] for line in powers(given)})}
@@ -302,8 +304,8 @@ def example_paths(it, room):
     page = with_paths(it, room, 'example', ('all', [line for lines in answers.values() for line in lines]),
                       ('secrets', secrets))
     page.go('#watch')
-    same('example: who comes to everything', page.it.do(COUNTS)[11],
-         ['13', 'Comes to everything (*)', 'of 22 principals with paths'])
+    same('example: who can take over everything', page.it.do(COUNTS)[11],
+         ['13', 'Can take over everything (*)', 'of 22 principals with paths'])
     same('example: and in how many steps', page.it.do(
         'Object.fromEntries(PATHS.filter(it => it.reach.everything !== undefined).map(it => '
         '[it.who, it.reach.everything]))'), RICH)

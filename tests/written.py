@@ -51,8 +51,8 @@ NAMED = [line.replace(' ', '\t') for line in (
     'create - pods/exec g:devs RoleBinding/dev/one', 'create - pods g:devs ClusterRoleBinding/pods',
     'impersonate - users u:system:serviceaccount:dev:ci ClusterRoleBinding/one-user',
     'create - serviceaccounts/token u:zoe RoleBinding/a/b/c')]
-# Paths of three principals, and READERS: who may read secrets in prod, or comes to somebody who may,
-# by who-can --indirect. Kim comes to everything in two steps, devs to everything in dev, and ops to a
+# Paths of three principals, and READERS: who may read secrets in prod, or can take over somebody who may,
+# by who-can --indirect. Kim takes over everything in two steps, devs everything in dev, and ops a
 # role. The lines of everything and of a role show what their grants lack.
 KIM = rows_of("""
 1 u:system:serviceaccount:dev:ci - u:kim - exec RoleBinding/dev/debug Role/dev/debug Role/dev/debug 1 2
