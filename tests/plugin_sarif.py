@@ -51,22 +51,22 @@ def same(it, name, got, wanted):
 # ---- what is in examples/
 
 FINDINGS = [
-    ('L1', 'warning', 'RoleBinding/shop/old-deploys refers to Role/shop/deployer-v1, which is not there, so it grants nothing.',
+    ('L1', 'warning', 'RoleBinding/shop/old-deploys refers to Role/shop/deployer-v1, which does not exist. So the binding grants nothing.',
      'lint.json:83', 'RoleBinding/shop/old-deploys'),
     ('L2', 'note', 'No binding uses Role/shop/night-batch.', 'lint.json:17', 'Role/shop/night-batch'),
-    ('L3', 'note', 'Rule 2 of Role/shop/deployer is redundant: rule 1 allows all that it allows.', 'lint.json:8', 'Role/shop/deployer'),
-    ('L4', 'error', 'Rule 1 of ClusterRole/team-lead allows bind: who has it can bind roles whose permissions they do not have.',
+    ('L3', 'note', 'Rule 2 of Role/shop/deployer is redundant: rule 1 allows everything that rule 2 allows.', 'lint.json:8', 'Role/shop/deployer'),
+    ('L4', 'error', 'Rule 1 of ClusterRole/team-lead allows bind: whoever has this rule can bind roles with permissions that they do not have.',
      'lint.json:25', 'ClusterRole/team-lead'),
-    ('L5', 'error', 'Subject 1 of ClusterRoleBinding/metrics is the service account scraper without a namespace, which names nobody.',
+    ('L5', 'error', 'Subject 1 of ClusterRoleBinding/metrics, the service account scraper, has no namespace. So it names nobody.',
      'lint.json:110', 'ClusterRoleBinding/metrics'),
-    ('L6', 'warning', 'The rules that are written in ClusterRole/shop-view are not those that it gathers.', 'lint.json:41', 'ClusterRole/shop-view'),
-    ('L7', 'warning', 'RoleBinding/shop/ci-deploys is there 2 times, and only this one counts.', 'lint.json:74', 'RoleBinding/shop/ci-deploys')]
+    ('L6', 'warning', 'The rules written in ClusterRole/shop-view differ from the rules that it gathers from other roles.', 'lint.json:41', 'ClusterRole/shop-view'),
+    ('L7', 'warning', 'RoleBinding/shop/ci-deploys is defined 2 times. Only this definition counts.', 'lint.json:74', 'RoleBinding/shop/ci-deploys')]
 # (the binding of the CI account is as before, so its role is what changes)
 CHANGES = [
     ('gained-permission', 'warning', 'The user system:serviceaccount:shop:ci gains 1 permission in the namespace shop, '
-     'which RoleBinding/shop/ci-deploys gives: get secrets.', 'manifests/change/deployer.yaml:5', 'Role/shop/deployer'),
+     'granted by RoleBinding/shop/ci-deploys: get secrets.', 'manifests/change/deployer.yaml:5', 'Role/shop/deployer'),
     ('lost-permission', 'note', 'The group shop-support loses 2 permissions in the namespace shop, '
-     'which RoleBinding/shop/support gave: get pods, get pods/log.', 'manifests/main/support.yaml:15', 'RoleBinding/shop/support')]
+     'granted before by RoleBinding/shop/support: get pods, get pods/log.', 'manifests/main/support.yaml:15', 'RoleBinding/shop/support')]
 BESIDE = [[('manifests/change/deployer.yaml:18', 'RoleBinding/shop/ci-deploys')], [('manifests/main/support.yaml:5', 'Role/shop/support')]]
 
 
@@ -113,11 +113,11 @@ def shop(*names):
 # account have all configmaps; and it takes a URL from a role.
 SHOP = [
     ('gained-permission', 'warning', 'The group shop-developers gains 1 permission in the namespace shop, '
-     'which RoleBinding/shop/developers-view gives: list secrets.', None, 'RoleBinding/shop/developers-view'),
+     'granted by RoleBinding/shop/developers-view: list secrets.', None, 'RoleBinding/shop/developers-view'),
     ('gained-permission', 'warning', 'The user system:serviceaccount:shop:ci gains 2 permissions in the namespace shop, '
-     'which RoleBinding/shop/ci-deploys gives: get configmaps, update configmaps.', None, 'RoleBinding/shop/ci-deploys'),
+     'granted by RoleBinding/shop/ci-deploys: get configmaps, update configmaps.', None, 'RoleBinding/shop/ci-deploys'),
     ('lost-permission', 'note', 'The user system:serviceaccount:monitoring:prometheus loses 1 permission, '
-     'which ClusterRoleBinding/monitoring-scrapes gave: get /healthz/*.', None, 'ClusterRoleBinding/monitoring-scrapes')]
+     'granted before by ClusterRoleBinding/monitoring-scrapes: get /healthz/*.', None, 'ClusterRoleBinding/monitoring-scrapes')]
 # Over an export, two of these bindings have roles of the change, so that is where they are shown.
 OVER = [SHOP[0], SHOP[1][:3] + ('rbac/change.json:8', 'Role/shop/deployer'), SHOP[2][:3] + ('rbac/change.json:29', 'ClusterRole/metrics-reader')]
 OF_EXPORT = [[], [(None, 'RoleBinding/shop/ci-deploys')], [(None, 'ClusterRoleBinding/monitoring-scrapes')]]
@@ -133,9 +133,9 @@ def exports(it):
     got = it.run('lint', '--export', 'prod', '--only', 'L2,L4', '--skip-system', '-o', 'sarif')
     same(it, 'lint of an export', seen(results_of(it, 'lint of an export', got, 1, '')), [
         ('L2', 'note', 'No binding uses ClusterRole/odd.', None, 'ClusterRole/odd'),
-        ('L4', 'error', 'Rule 1 of Role/shop-staging/owner allows bind: who has it can bind roles whose permissions they do not have.',
+        ('L4', 'error', 'Rule 1 of Role/shop-staging/owner allows bind: whoever has this rule can bind roles with permissions that they do not have.',
          None, 'Role/shop-staging/owner'),
-        ('L4', 'error', 'Rule 1 of Role/shop-staging/owner allows escalate: who has it can write roles with permissions that they do not have.',
+        ('L4', 'error', 'Rule 1 of Role/shop-staging/owner allows escalate: whoever has this rule can write roles with permissions that they do not have.',
          None, 'Role/shop-staging/owner')])
     same(it, 'lint of a cluster', it.run('lint', '--only', 'L2,L4', '--skip-system', '-o', 'sarif'), got)
     for name, line, wanted in (('two exports', ['--export', 'new'], (SHOP, [[], [], []])), ('a change of an export', ['--with', 'rbac'], (OVER, OF_EXPORT))):
@@ -250,8 +250,8 @@ def lines(it):
 
 # ---- which object a change is about
 
-TO = 'The user %s gains 1 permission in the namespace a, which RoleBinding/a/%s gives: %s.'
-FROM = TO.replace('gains', 'loses').replace('gives', 'gave')
+TO = 'The user %s gains 1 permission in the namespace a, granted by RoleBinding/a/%s: %s.'
+FROM = TO.replace('gains', 'loses').replace('granted', 'granted before')
 
 
 def change(sign, user, name, what, place, object_):
@@ -332,10 +332,10 @@ def permissions(subject, group, resource, *verbs, names=(), urls=()):
 
 
 GAINS = [
-    ('The group a b', '"a b"', 'The group "a b" gains 1 permission, which ClusterRoleBinding/of-get-url gives: get /metrics.'),
-    ('twelve', 'ann', 'The user ann gains 12 permissions in all namespaces, which ClusterRoleBinding/of-v00-deployments gives: '
+    ('The group a b', '"a b"', 'The group "a b" gains 1 permission, granted by ClusterRoleBinding/of-get-url: get /metrics.'),
+    ('twelve', 'ann', 'The user ann gains 12 permissions in all namespaces, granted by ClusterRoleBinding/of-v00-deployments: '
      + ', '.join('v%02d deployments.apps' % at for at in range(10)) + ' and 2 more.'),
-    ('named', 'bob', 'The user bob gains 2 permissions in all namespaces, which ClusterRoleBinding/of-get-secrets gives: '
+    ('named', 'bob', 'The user bob gains 2 permissions in all namespaces, granted by ClusterRoleBinding/of-get-secrets: '
      'get secrets named *, get secrets named db.')]
 
 
@@ -381,11 +381,11 @@ def many():
         put(it, {'lint/cluster.json': a_list('List', 'v1', *roles), 'lint/namespaced.json': a_list('List', 'v1'), 'old/namespaced.json': a_list('List', 'v1'),
                  'old/cluster.json': a_list('List', 'v1', _, lost), 'new/cluster.json': a_list('List', 'v1', granted, gained),
                  'new/namespaced.json': a_list('List', 'v1')})
-        said = 'kubectl-rbacaudit: %d more results are left out: code hosts take no more than the first 25000\n'
+        said = 'kubectl-rbacaudit: %d more results are left out, because code hosts take at most 25000\n'
         got = it.run('lint', '--export', 'lint', '-o', 'sarif')
         found = results_of(it, 'many findings', got, 1, said % 7)
         same(it, 'many findings', (len(found), sarif.read(got[1])[0]['invocations']), (MOST, [{'executionSuccessful': True, 'toolExecutionNotifications': [
-            {'level': 'warning', 'message': {'text': '7 more results are left out: code hosts take 25000.'}}]}]))
+            {'level': 'warning', 'message': {'text': '7 more results are left out, because code hosts take at most 25000.'}}]}]))
         found = results_of(it, 'many changes', it.run('diff', '--export', 'old', '--export', 'new', '-o', 'sarif'), 1, said % 2)
         same(it, 'what is gained comes first', [it_['ruleId'] for it_ in found], ['gained-permission'] * (MOST - 1) + ['lost-permission'])
 

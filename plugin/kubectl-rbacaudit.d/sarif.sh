@@ -165,12 +165,12 @@ RULES_FOUND='
 BEGIN {
     if (command == "lint") lint_rules()
     else {
-        rule("gained-permission", "gained-permission", "warning", "Somebody gains a permission",
-            "After the change, a user or the members of a group may do something that they may not do before.",
-            "Check that they need it. Otherwise take it out of the role, or take them out of the binding.")
-        rule("lost-permission", "lost-permission", "note", "Somebody loses a permission",
-            "Before the change, a user or the members of a group may do something that they may not do after it.",
-            "Check that they do not need it any more.")
+        rule("gained-permission", "gained-permission", "warning", "A user or a group gains a permission",
+            "After the change, a user or the members of a group can do something that they could not do before.",
+            "Check that they need the permission. If not, remove it from the role, or remove them from the binding.")
+        rule("lost-permission", "lost-permission", "note", "A user or a group loses a permission",
+            "After the change, a user or the members of a group can no longer do something that they could do before.",
+            "Check that they no longer need the permission.")
     }
 }
 function rule(id, name, level, short, full, help) {
@@ -181,30 +181,31 @@ function rule(id, name, level, short, full, help) {
         "\"},\"defaultConfiguration\":{\"level\":\"" level "\"}}"
 }
 function lint_rules() {
-    rule("L1", "dangling-role", "warning", "A binding refers to a role that is not there",
-        "There is no role of this kind, namespace and name. The binding grants nothing, until somebody creates one.",
-        "Check that all files were read: of manifests alone, the role may be in the cluster. " \
-        "Then delete the binding, or correct the role that it refers to.")
-    rule("L2", "unused-role", "note", "No binding uses a role",
-        "No binding refers to the role, and no cluster role that a binding refers to gathers its rules.",
-        "Delete the role if nobody is going to bind it.")
+    rule("L1", "dangling-role", "warning", "A binding refers to a role that does not exist",
+        "No role has this kind, namespace and name. Until somebody creates it, the binding grants nothing.",
+        "Check that all files were read. If only manifests were read, the role may exist in the cluster. " \
+        "Otherwise delete the binding, or correct its roleRef.")
+    rule("L2", "unused-role", "note", "A role is unused",
+        "No binding refers to the role, or to an aggregated cluster role that includes its rules.",
+        "If nobody is going to bind the role, delete it.")
     rule("L3", "redundant-rule", "note", "A rule is redundant",
-        "Another rule of the same role allows all that this rule allows.", "Delete this rule.")
-    rule("L4", "escalation", "error", "A rule allows escalation",
-        "The rule allows the verb bind or escalate on roles or cluster roles. With it, users can bind roles whose " \
-        "permissions they do not have, or write such roles.",
-        "Find out who has it, with kubectl rbacaudit who-can -n NS bind roles.rbac.authorization.k8s.io, and " \
-        "take it from everybody who is not an administrator.")
-    rule("L5", "account-without-namespace", "error", "A service account has no namespace",
-        "A subject of a ClusterRoleBinding is a ServiceAccount without a namespace. It names nobody, and a server " \
-        "refuses it.", "Add the namespace of the service account.")
-    rule("L6", "stale-aggregate", "warning", "The rules of an aggregated role are stale",
-        "The rules that are written in the aggregated role are not those that it gathers. A cluster grants what is " \
-        "written.",
-        "Of a cluster, export again. If the finding stays, see whether the controller runs, and whether aggregated " \
-        "roles select each other. In manifests, leave the rules of an aggregated role empty.")
-    rule("L7", "replaced-object", "warning", "An object replaces another one",
-        "Several objects have the same kind, namespace and name, and only the last one counts.",
+        "Another rule of the same role allows everything that this rule allows.", "Delete this rule.")
+    rule("L4", "escalation", "error", "A rule allows privilege escalation",
+        "The rule allows the verb bind or escalate on roles or cluster roles. With bind, users can bind roles with " \
+        "permissions that they do not have. With escalate, they can write such roles.",
+        "List who has the permission: kubectl rbacaudit who-can -n NS VERB TYPE.rbac.authorization.k8s.io, where " \
+        "VERB is bind or escalate, and TYPE is roles or clusterroles. Take it from everybody who is not an " \
+        "administrator.")
+    rule("L5", "account-without-namespace", "error", "A ServiceAccount subject has no namespace",
+        "A ServiceAccount subject of a ClusterRoleBinding has no namespace. It names nobody, and a server refuses " \
+        "such a binding.", "Add the namespace of the service account to the subject.")
+    rule("L6", "stale-aggregate", "warning", "An aggregated role has stale rules",
+        "The rules written in the aggregated role differ from the rules that it gathers from other roles. A " \
+        "cluster grants the written rules.",
+        "For a cluster, export again. If the finding remains, check that the controller manager runs, and that no " \
+        "aggregated roles select each other. For manifests, leave the rules of the aggregated role empty.")
+    rule("L7", "replaced-object", "warning", "An object replaces another",
+        "Several objects have the same kind, namespace and name. Only the last one counts.",
         "Delete the other objects, or give the files in the right order.")
 }'
 
@@ -227,7 +228,7 @@ BEGIN {
 function end_results() {
     print "],\n\"invocations\":[{\"executionSuccessful\":true"
     if (left) print ",\"toolExecutionNotifications\":[{\"level\":\"warning\",\"message\":{\"text\":\"" left \
-        " more results are left out: code hosts take " MOST ".\"}}]"
+        " more results are left out, because code hosts take at most " MOST ".\"}}]"
     print "}]}]}\n"
     if (left) print left >LEFT
 }
@@ -284,19 +285,19 @@ step == 1 { if ($2 != "") { address["1\t" $1] = $2; line["1\t" $1] = $3 }; next 
 { put($1, finding(shown($3), $4, $5), "1\t" $3, "", $1 == "L7" ? $3 : $3 "\t" $4 "\t" $5) }
 END { end_results() }
 function finding(object, place, detail) {
-    if ($1 == "L1") return object " refers to " shown(detail) ", which is not there, so it grants nothing."
+    if ($1 == "L1") return object " refers to " shown(detail) ", which does not exist. So the binding grants nothing."
     if ($1 == "L2") return "No binding uses " object "."
-    if ($1 == "L3") return "Rule " place " of " object " is redundant: rule " detail " allows all that it allows."
-    if ($1 == "L4" && detail == "bind")
-        return "Rule " place " of " object " allows bind: who has it can bind roles whose permissions they do not have."
+    if ($1 == "L3")
+        return "Rule " place " of " object " is redundant: rule " detail " allows everything that rule " place \
+            " allows."
     if ($1 == "L4")
-        return "Rule " place " of " object " allows escalate: who has it can write roles with permissions that they do " \
-            "not have."
+        return "Rule " place " of " object " allows " detail ": whoever has this rule can " \
+            (detail == "bind" ? "bind" : "write") " roles with permissions that they do not have."
     if ($1 == "L5")
-        return "Subject " place " of " object " is the service account " shown(detail) " without a namespace, which names " \
-            "nobody."
-    if ($1 == "L6") return "The rules that are written in " object " are not those that it gathers."
-    return object " is there " detail + 1 " times, and only this one counts."
+        return "Subject " place " of " object ", the service account " shown(detail) ", has no namespace. So it " \
+            "names nobody."
+    if ($1 == "L6") return "The rules written in " object " differ from the rules that it gathers from other roles."
+    return object " is defined " detail + 1 " times. Only this definition counts."
 }'
 
 # The same for the changes of diff. It reads the objects of an export; where the objects of manifests stand, before
@@ -333,8 +334,9 @@ function put_change(name,    many) {
     choose(sign == "+" ? 2 : 1, name)
     put(sign == "+" ? "gained-permission" : "lost-permission", (who ~ /^u/ ? "The user " : "The group ") \
         shown(substr(who, 3)) (sign == "+" ? " gains " : " loses ") many (many == 1 ? " permission" : " permissions") \
-        (where == "-" ? "" : where == "*" ? " in all namespaces" : " in the namespace " shown(where)) ", which " \
-        shown(name) (sign == "+" ? " gives: " : " gave: ") listed[name] (many > FEW ? " and " many - FEW " more" : "") ".",
+        (where == "-" ? "" : where == "*" ? " in all namespaces" : " in the namespace " shown(where)) \
+        (sign == "+" ? ", granted by " : ", granted before by ") shown(name) ": " listed[name] \
+        (many > FEW ? " and " many - FEW " more" : "") ".",
         first, second, who "\t" where "\t" name)
 }
 # Leaves in `first` the object that a result is about, and in `second` the related one: a binding and its role. The
@@ -359,7 +361,7 @@ make_sarif() {
     : >"$scratch/left" || refuse "can't write into $scratch"
     if [ "$command" = lint ]; then write_findings; else write_changes; fi
     left=$(cat "$scratch/left")
-    [ -z "$left" ] || report "$left more results are left out: code hosts take no more than the first 25000"
+    [ -z "$left" ] || report "$left more results are left out, because code hosts take at most 25000"
 }
 
 write_findings() {
