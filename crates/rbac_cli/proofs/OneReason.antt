@@ -1,4 +1,4 @@
--- A verdict has one reason: the first grant that allows, and its first subject that names who asks.
+-- A verdict has one reason: the first grant that allows, and its first subject that names the principal.
 use Rattle.std.proofs.Common.{◌≡◌, ◌∙◌, ℕ, Bool, true, false, List, ap, sym, subst}
 use Rattle.rbac_terms.specs.Text.{Text}
 use Rattle.rbac_terms.specs.Targets.{What}

@@ -65,7 +65,7 @@ IsDenied held entries who q =
     × (¬ Allows held who namespace q.verb target)
 
 -- the line that explains a yes: the first grant that allows it, and the first subject of its
--- binding that names who asks
+-- binding that names the principal
 abbrev pub IsWhyText : PolicyView → List Entry → Who → Question → Text → Type 0
 IsWhyText p entries who q text =
     (target : What) × (namespace : Text) × IsMeant entries q target namespace

@@ -102,8 +102,6 @@ fn holders_of<'p>(
         (requested_of requested.entry)) }
     ensures policy { IsPolicy policy.now }
 {
-    // Called for its contract alone, which states what a policy is. So each holder has a line.
-    let _ = policy.bindings();
     let index = Index::build(alloc, policy)?;
     index.holders(alloc, scope, every, verb, requested)
 }

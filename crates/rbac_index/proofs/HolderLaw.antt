@@ -1,4 +1,4 @@
--- a request is allowed exactly where some holder is who asks, or one of its groups
+-- a request is allowed exactly where some holder is the principal, or one of its groups
 use Rattle.std.proofs.Common.{◌≡◌, ℕ, ◌+◌, ◌<◌, List, [], ◌∷◌, length, ap, sym, ◌∙◌, refl, subst, suc, zero, false, ◌⊎◌, inl, inr, arith, get_or}
 use Rattle.std.specs.Prelude.{Some, Any}
 use Rattle.std.specs.Str.{bytes_eq}

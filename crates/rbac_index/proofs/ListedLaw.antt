@@ -1,4 +1,4 @@
--- a binding grants a request exactly where a holder is listed with it who is who asks, or one of its groups
+-- a binding grants a request exactly where a holder is listed with it that is the principal, or one of its groups
 use Rattle.std.proofs.Common.{◌≡◌, ℕ, ◌+◌, ◌<◌, ◌≤◌, ◌⊎◌, List, [], ◌∷◌, true, ap, sym, ◌∙◌, refl, subst, suc, zero, inl, inr, arith, slice_get}
 use Rattle.std.specs.Prelude.{Some, Any}
 use Rattle.std.specs.Str.{bytes_eq}

@@ -45,13 +45,13 @@ GrantsOf p who verb t at n =
     × (slice_get p.held.bindings at ≡ Some g.binding) × BindingNames g.binding who
     × RuleAllows g.rule.rule verb t
 
--- no binding at these places names who asks and has a grant whose rule allows the verb on the
+-- no binding at these places names the principal and has a grant whose rule allows the verb on the
 -- target
 abbrev pub NoneAmong : PolicyView → Who → Text → What → ℕ → ℕ → Type 0
 NoneAmong p who verb t from to = (at n : ℕ) → from ≤ at → at < to → ¬ GrantsOf p who verb t at n
 
 -- the answer shows the first grant whose rule allows the verb on the target, among those of the
--- bindings at these places that name who asks
+-- bindings at these places that name the principal
 pub record IsFirstAmong (p : PolicyView) (who : Who) (verb : Text) (t : What) (from to : ℕ)
     (why : Why) : Type 0 where
   pub at : ℕ

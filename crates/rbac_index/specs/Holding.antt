@@ -58,20 +58,20 @@ pub record AreFirsts (every : Bool) (xs firsts : List HolderView) : Type 0 where
   pub exact : (x : HolderView) → Contains firsts x
       ↔ (Contains xs x × ((y : HolderView) → Contains xs y → IsAlike every y x → ¬ IsEarlier y x))
 
--- a request is allowed exactly if some holder has the key of who asks, or of one of the groups of
--- who asks
+-- a principal's request is allowed exactly if some holder has the key of the principal, or of one
+-- of its groups
 abbrev pub AllowsByHolders : Held → Text → Text → What → List HolderView → Type 0
 AllowsByHolders h namespace verb t xs = (who : Who) → Allows h who namespace verb t
     ↔ Any (λ x. IsKeyFor who x.key) xs
 
--- a binding grants the request in a scope: it is live there, names who asks, and brings a rule that
--- allows the request (Using RBAC Authorization)
+-- a binding grants the request in a scope: it is live there, names the principal, and brings a rule
+-- that allows the request (Using RBAC Authorization)
 abbrev pub GrantsIn : Held → Scope → Binding → Who → Text → RequestedView → Type 0
 GrantsIn h scope b who verb t = LiveIn scope b.namespace (target_given t) × BindingNames b who
     × BringsRequested h b verb t
 
--- the binding at a place grants a request exactly if the list has this binding with the key of who
--- asks, or with the key of one of the groups of who asks
+-- the binding at a place grants a request exactly if the list has this binding with the key of the
+-- principal, or with the key of one of its groups
 abbrev pub GrantsByHolders : Held → Scope → Text → RequestedView → List HolderView → Type 0
 GrantsByHolders h scope verb t xs = (who : Who) (i : ℕ) (b : Binding)
     → slice_get h.bindings i ≡ Some b

@@ -4,7 +4,7 @@ ghost use Rattle.std.specs.Prelude.{◌≡◌, ◌<◌, ◌↔◌, ℕ, length, 
 ghost use Rattle.std.specs.Prelude.{Any, Contains, IfOk, IfSome, MatchOption, OnOk, ◌++◌, ◌∷◌, []};
 ghost use Rattle.std.specs.List.Sorted.{IsStrictlyIncreasing};
 ghost use Rattle.rbac_model.specs.Sources.{grant_of};
-ghost use Rattle.rbac_model.specs.Policies.{Allows, IsFirst, IsOfBinding};
+ghost use Rattle.rbac_model.specs.Policies.{Allows, IsFirst, IsOfBinding, IsPolicy};
 ghost use Rattle.rbac_model.specs.Holders.{AreHolders};
 ghost use Rattle.rbac_index.specs.Indexed.{AreCandidates, HaveNumbers, IsAllowedBy, AreAlike};
 ghost use Rattle.rbac_index.specs.Indexed.{numbers_by};
@@ -68,7 +68,8 @@ impl<'p> Model for Index<'p> {
 impl<'p> Index<'p> {
     /// The index of this policy. X1 NoMemory if it runs out of memory.
     pub fn build(alloc: Global, policy: &'p Policy) -> Result<Self, IndexFault>
-        ensures { IfOk result (λ i. i ≡ policy.now) }
+        ensures index { IfOk result (λ i. i ≡ policy.now) }
+        ensures policy { IsPolicy policy.now }
     {
         let rows = rows_of(alloc, policy.objects())?;
         let listed = listed_rules(alloc, rows.as_slice())?;

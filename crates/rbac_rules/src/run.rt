@@ -9,7 +9,7 @@ use rbac_model::{Policy, may_be_live_in, naming_place};
 use rbac_terms::{Principal, Scope};
 
 // The grants of one binding that are left, from number `no` up to `end`, the place of the first
-// subject that names who asks, and the place after the binding's.
+// subject that names the principal, and the place after the binding's.
 #[derive(Clone, Copy)]
 pub(crate) struct Run {
     pub(crate) no: u32,
@@ -18,7 +18,7 @@ pub(crate) struct Run {
     pub(crate) next_place: usize,
 }
 
-// The grants of the binding at this place, if it has some and who asks has their rules.
+// The grants of the binding at this place, if it has some and the principal has their rules.
 fn run_of(policy: &Policy, who: &Principal, scope: &Scope, place: usize) -> Option<Run>
     requires { place < length policy.now.held.bindings }
     ensures run { MatchOption result

@@ -8,5 +8,5 @@ use Rattle.rbac_cli.proofs.who_can.holders_of.Goals as goal
 pub returns-clause-holders : goal.returns-clause-holders
 returns-clause-holders c =
     IfOk-weaker c.holders.result _ _
-    (λ xs holders. subst (λ (p : PolicyView). AreListedHolders p.held c.args.scope.now c.args.every c.args.verb.now (requested_of c.args.requested) xs) c.in_ok-index.ensures holders)
+    (λ xs holders. subst (λ (p : PolicyView). AreListedHolders p.held c.args.scope.now c.args.every c.args.verb.now (requested_of c.args.requested) xs) c.in_ok-index.ensures.index holders)
     c.holders.ensures
