@@ -1,4 +1,4 @@
--- the rules of the grants that are bound to who asks
+-- the rules of the grants that are bound to the principal
 use Rattle.std.proofs.Common.{◌≡◌, ℕ, ◌+◌, ◌-◌, ◌≤◌, ◌⊎◌, ◌↔◌, List, [], ◌∷◌, ◌++◌, length, slice_get, sym, ap, ◌∙◌, refl, subst, inl, inr, arith, zero, suc, Any, Bor}
 use Rattle.std.specs.Prelude.{Some, None, Option}
 use Rattle.std.specs.Option.{option_copied, unwrap_or}
@@ -99,7 +99,7 @@ wider_live (Some own) (Some namespace) asked is some = (
   λ h. inr (ap (λ (t : Text). Some t) (h.1 ∙ is)),
 )
 
--- a grant has the rule, and its binding is live there and names who asks
+-- a grant has the rule, and its binding is live there and names the principal
 abbrev Gives : Option Text → Who → Rule → GrantView → Type 0
 Gives namespace who r g = IsWider g.binding.namespace namespace × BindingNames g.binding who × (g.rule.rule ≡ r)
 

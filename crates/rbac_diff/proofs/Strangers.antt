@@ -88,7 +88,7 @@ module _ (group : Text) (k : ℕ) where
   stranger_named (Some m) (Account None n) short e = let b : 120 ≡ 115 = ap (byte 0) e in absurd (omega (arith, b))
   stranger_named None (Account None n) short e = absurd e
 
--- ---- who asks
+-- ---- the principal
 
 -- somebody for whom a permission is, whom bindings of these grants name only if they name one who stands in
 pub record Asker (gs : List GrantView) (principal : Who) : Type 0 where

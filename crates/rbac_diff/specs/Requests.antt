@@ -7,7 +7,7 @@ use Rattle.rbac_terms.specs.Matching.{WordMatches, ResourceWordMatches, UrlWordM
 use Rattle.rbac_model.specs.Policies.{PolicyView, Live, Allows}
 use Rattle.rbac_diff.specs.Permissions.{Permitted, OnResource, OnUrl, PermissionView}
 
--- who asks for what, and where
+-- a request: who asks for what, and where
 pub record RequestView : Type 0 where
   pub who : Who
   pub namespace : Text
@@ -31,7 +31,7 @@ IsRequest r = IsUser r.who × IsProper r.target
 abbrev pub AllowsRequest : PolicyView → RequestView → Type 0
 AllowsRequest policy r = Allows policy.held r.who r.namespace r.verb r.target
 
--- who asks is the user of that name, or in that group
+-- the principal is the user of that name, or in that group
 abbrev pub IsFor : Who → Who → Type 0
 IsFor (AsUser name given) who = IsUserNamed who name
 IsFor (AsMember group) who = IsInGroup who group
@@ -50,7 +50,7 @@ IsPermitted (OnResource own group resource name) namespace (Resource g text n) =
 IsPermitted (OnUrl url) namespace (Url path) = UrlWordMatches url path
 IsPermitted _ _ _ = ⊥
 
--- a permission stands for a request: it is for who asks, and its words match what is asked for
+-- a permission stands for a request: it is for the principal, and its words match what is asked for
 pub record StandsFor (p : PermissionView) (r : RequestView) : Type 0 where
   pub principal : IsFor p.principal r.who
   pub verb : WordMatches p.verb r.verb

@@ -23,7 +23,7 @@ HasCoveringRule rules r = Any (λ held. CoversAll held.now r) rules
 abbrev pub IsCoveringPlace : List (Bor Rule) → Rule → ℕ → Type 0
 IsCoveringPlace rules r at = (at < length rules) × HasCoveringRule rules r
 
--- the rule of a grant, one of the first `count`, that is bound to who asks in that namespace
+-- the rule of a grant, one of the first `count`, that is bound to the principal in that namespace
 abbrev pub IsBoundRule : PolicyView → Who → Text → ℕ → Rule → Type 0
 IsBoundRule policy who namespace count r = (no : ℕ) × (g : GrantView) × (no < count)
     × (slice_get policy.grants no ≡ Some g) × IsBoundTo policy who namespace no × (g.rule.rule ≡ r)

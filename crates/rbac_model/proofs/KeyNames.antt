@@ -1,4 +1,5 @@
--- a subject names who asks exactly where its key is theirs, or that of one of their groups
+-- a subject names the principal exactly where its key is that of the principal, or of one of its
+-- groups
 use Rattle.std.proofs.Common.{◌≡◌, List, [], ◌++◌, ap, sym, refl, subst, inl, inr}
 use Rattle.std.specs.Prelude.{Option, Some, None, codes}
 use Rattle.std.proofs.lemmas.List.{append_cancel_left}
@@ -27,7 +28,7 @@ group_named (AsUser n given) name (inr g) = subst (λ (t : Text). IsInGroup (AsU
 group_named (AsMember g) name (inl e) = append_cancel_left (codes "g:") name g e
 group_named (AsMember g) name (inr f) = subst (λ (t : Text). IsInGroup (AsMember g) t) (sym (append_cancel_left (codes "g:") name f.0 f.2)) f.1
 
--- a subject that names who asks has such a key
+-- a subject that names the principal has such a key
 pub naming_key : (s : Subject) (namespace : Option Text) (who : Who) → Names s namespace who → (key : Text) × IsSubjectKey s namespace key × IsKeyFor who key
 naming_key (User name) namespace who n = (who_key (AsUser name []), refl, inl (user_key who name n))
 naming_key (Group name) namespace who n = (who_key (AsMember name), refl, inr (name, n, refl))
@@ -35,7 +36,7 @@ naming_key (Account (Some m) name) namespace who n = (who_key (AsUser (account_u
 naming_key (Account None name) (Some m) who n = (who_key (AsUser (account_user m name) []), refl, inl (user_key who (account_user m name) n))
 naming_key (Account None name) None who n = absurd n
 
--- a subject with such a key names who asks
+-- a subject with such a key names the principal
 pub key_names : (s : Subject) (namespace : Option Text) (who : Who) (key : Text) → IsSubjectKey s namespace key → IsKeyFor who key → Names s namespace who
 key_names (User name) namespace who key e f = user_named who name (subst (IsKeyFor who) e f)
 key_names (Group name) namespace who key e f = group_named who name (subst (IsKeyFor who) e f)

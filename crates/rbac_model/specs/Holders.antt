@@ -52,7 +52,7 @@ pub record AreHolders (h : Held) (namespace verb : Text) (t : What)
 abbrev pub HasKey : Binding → Text → Type 0
 HasKey b key = Any (λ s. IsSubjectKey s b.namespace key) b.subjects
 
--- the key of who asks, or of one of the groups of who asks
+-- the key of the principal, or of one of its groups
 abbrev pub IsKeyFor : Who → Text → Type 0
 IsKeyFor who key = (key ≡ who_key who)
     ⊎ ((group : Text) × IsInGroup who group × (key ≡ who_key (AsMember group)))

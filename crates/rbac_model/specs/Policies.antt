@@ -220,7 +220,7 @@ Live None asked t = Unit {0}
 Live (Some namespace) asked (Resource _ _ _) = (asked ≢ []) × (namespace ≡ asked)
 Live (Some namespace) asked (Url _) = ⊥
 
--- some subject of the binding names who asks (Using RBAC Authorization, Referring to subjects)
+-- some subject of the binding names the principal (Using RBAC Authorization, Referring to subjects)
 abbrev pub BindingNames : Binding → Who → Type 0
 BindingNames b who = Any (λ subject. Names subject b.namespace who) b.subjects
 
@@ -229,8 +229,8 @@ abbrev pub Brings : Held → Binding → Text → What → Type 0
 Brings h b verb t = (rules : List SourcedRule) × AreRulesFor h b rules
     × Any (λ r. RuleAllows r.rule verb t) rules
 
--- a binding grants a request: it is live, names who asks, and brings a rule that allows the verb on
--- the target (Using RBAC Authorization)
+-- a binding grants a request: it is live, names the principal, and brings a rule that allows the
+-- verb on the target (Using RBAC Authorization)
 abbrev pub Grants : Held → Binding → Who → Text → Text → What → Type 0
 Grants h b who namespace verb t = Live b.namespace namespace t × BindingNames b who
     × Brings h b verb t
@@ -244,14 +244,14 @@ abbrev pub IsFirst : Held → Who → Text → Text → What → Binding → Typ
 IsFirst h who namespace verb t b = (i : ℕ)
     × IsFirstAt (λ c. Grants h c who namespace verb t) h.bindings i b
 
--- a grant allows a request: its binding is live and names who asks, and its rule allows the verb on
--- the target
+-- a grant allows a request: its binding is live and names the principal, and its rule allows the
+-- verb on the target
 abbrev pub GrantAllows : Who → Text → Text → What → GrantView → Type 0
 GrantAllows who namespace verb t g = Live g.binding.namespace namespace t
     × BindingNames g.binding who × RuleAllows g.rule.rule verb t
 
 -- why a request is allowed: the first grant that allows it, and the first subject of its binding
--- that names who asks (own)
+-- that names the principal (own)
 pub record IsWhy (p : PolicyView) (who : Who) (namespace verb : Text) (t : What) (g : GrantView)
     (subject_place : ℕ) : Type 0 where
   pub grant : (no : ℕ) × IsFirstAt (GrantAllows who namespace verb t) p.grants no g

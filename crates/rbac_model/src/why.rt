@@ -10,7 +10,7 @@ use crate::references::SourceRole;
 use rbac_terms::{Binding, Principal, names};
 
 /// Why a request is allowed (own): the first grant that allows it, by its binding and the place
-/// where its rule is written, and the first subject of the binding that names who asks.
+/// where its rule is written, and the first subject of the binding that names the principal.
 #[derive(Clone, Copy)]
 pub struct Why<'p> {
     /// The binding that grants.
@@ -19,7 +19,7 @@ pub struct Why<'p> {
     pub source: SourceRole<'p>,
     /// The place of the rule in that role, from 0.
     pub rule_place: usize,
-    /// The place, among the binding's subjects, of the first one that names who asks, from 0.
+    /// The place, among the binding's subjects, of the first one that names the principal, from 0.
     pub subject_place: usize,
 }
 

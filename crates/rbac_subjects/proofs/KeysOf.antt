@@ -1,4 +1,5 @@
--- the keys of who asks, listed: its own, those of the groups implied, and those of the groups given
+-- the keys of the principal, listed: its own, those of the groups implied, and those of the groups
+-- given
 use Rattle.std.proofs.Common.{◌≡◌, List, [], ◌∷◌, ◌++◌, ap, sym, ◌∙◌, refl, subst, inl, inr, ◌⊎◌, ◌↔◌, ◌<◌, length, map, get_or, Contains, arith}
 use Rattle.std.specs.Prelude.{codes}
 use Rattle.std.specs.Iterator.{YieldsFirst}
@@ -10,15 +11,15 @@ use Rattle.rbac_terms.specs.Text.{Text}
 use Rattle.rbac_terms.specs.Principals.{Who, AsUser, AsMember, who_key, given_of, IsAccountIn, IsGroupOfAccounts, SignsInAs}
 use Rattle.rbac_model.specs.Holders.{IsKeyFor}
 
--- exactly the key of who asks and those of these groups
+-- exactly the key of the principal and those of these groups
 abbrev pub Lists : Who → (Text → Type 0) → List Text → Type 0
 Lists who Is keys = (key : Text) → Contains keys key ↔ ((key ≡ who_key who) ⊎ ((g : Text) × Is g × (key ≡ who_key (AsMember g))))
 
--- the group is one that who asks is in as a service account
+-- the group is one that the principal is in as a service account
 abbrev pub IsOfAccount : Who → Text → Type 0
 IsOfAccount who g = (namespace : Text) × IsAccountIn who namespace × IsGroupOfAccounts namespace g
 
--- who asks is in the group as a service account, or as one that has signed in or has not
+-- the principal is in the group as a service account, or as one that has signed in or has not
 abbrev pub IsImplied : Who → Text → Type 0
 IsImplied who g = IsOfAccount who g ⊎ SignsInAs who g
 

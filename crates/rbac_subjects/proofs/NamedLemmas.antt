@@ -1,4 +1,4 @@
--- the places of the bindings that name who asks, key by key
+-- the places of the bindings that name the principal, key by key
 use Rattle.std.proofs.Common.{◌≡◌, ℕ, ◌+◌, ◌<◌, ◌≤◌, List, [], ◌∷◌, ◌++◌, length, get_or, Contains, sym, ◌∙◌, subst, inl, inr, ◌↔◌, true, arith}
 use Rattle.std.specs.Ordering.{is_lt}
 use Rattle.std.specs.List.Sorted.{IsSorted}
@@ -71,7 +71,7 @@ module _ (xs : List Keyed) (end : ℕ) where
     λ u. (are n).1 (u.0, (exact u.0).1 u.1, u.2),
   )
 
--- they are those of the bindings that name who asks
+-- they are those of the bindings that name the principal
 module _ (p : PolicyView) (ok : IsPolicy p) (xs : List Keyed) (are : AreKeyed p xs) (who : Who) where
   pub under_named : (places : List ℕ) → AreUnder xs (IsKeyFor who) (length p.held.bindings) places → AreNamedPlaces p who places
   under_named places under n at of = (

@@ -1,4 +1,4 @@
--- the least namespace where a RoleBinding names who asks
+-- the least namespace where a RoleBinding names the principal
 use Rattle.std.proofs.Common.{◌≡◌, ◌<◌, ◌≤◌, ◌↔◌, ◌∙◌, ℕ, List, ap, arith, inl, inr, length, refl, slice_get, subst, sym}
 use Rattle.std.specs.Prelude.{Option, Some, None}
 use Rattle.std.specs.declared.cmp.Ordering.TheVariants.{Less}
@@ -22,7 +22,7 @@ module _ (p : PolicyView) (ok : IsPolicy p) (xs : List Keyed) (are : AreKeyed p 
   abbrev Found : ℕ → Type 0
   Found = IsLiveUnderAny xs live (IsKeyFor who)
 
-  -- a RoleBinding that names who asks is found at its place
+  -- a RoleBinding that names the principal is found at its place
   place_of : (x : Text) → IsNamedIn p who x → (at : ℕ) × (b : Binding) × (slice_get p.held.bindings at ≡ Some b) × (b.namespace ≡ Some x) × Found at
   place_of x named =
       let of = of_some_binding p ok named.0 (slice_get_within p.grants named.0 named.1 named.2) in

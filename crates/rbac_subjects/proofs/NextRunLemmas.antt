@@ -17,7 +17,7 @@ use Rattle.rbac_subjects.specs.Keyed.{keyed, HasGrants, AreKeyed, IsLiveAt, IsNe
 use Rattle.rbac_model.proofs.KeyNames.{naming_key, key_names}
 
 module _ (p : PolicyView) (ok : IsPolicy p) (xs : List Keyed) (are : AreKeyed p xs) (who : Who) where
-  -- who asks is named by a binding exactly where one of its keys is listed with it
+  -- the principal is named by a binding exactly where one of its keys is listed with it
   pub named_at : (key : Text) (place : ℕ) → IsKeyFor who key → Contains xs (keyed key place) → (b : Binding) × (slice_get p.held.bindings place ≡ Some b) × BindingNames b who
   named_at key place has c =
       let w = ((are.exact (keyed key place)).0 c).1 in
@@ -37,7 +37,7 @@ module _ (p : PolicyView) (ok : IsPolicy p) (xs : List Keyed) (are : AreKeyed p 
         let w = named_at found.0 at found.1 found.2.0 in
         subst (λ (b : Binding). BindingNames b who) (same_Some w.0 of.0.binding (sym w.1 ∙ of.2)) w.2
 
-    -- a grant's binding names who asks exactly if it is listed under one of its keys
+    -- a grant's binding names the principal exactly if it is listed under one of its keys
     pub found_named : (n : ℕ) → IsOfLive p xs live (IsKeyFor who) n → IsNamedBy p who n
     found_named n of = (of.1.0, of.1.1, names_of n of.0 of.1 of.2)
 
@@ -60,7 +60,7 @@ module _ (p : PolicyView) (ok : IsPolicy p) (xs : List Keyed) (are : AreKeyed p 
     )
 
     module _ (namespace : Text) (lives : (at : ℕ) (b : Binding) → slice_get p.held.bindings at ≡ Some b → IsLiveAt live at ↔ LiveForSome b.namespace namespace) where
-      -- and is bound to who asks exactly if it is live there besides
+      -- and is bound to the principal exactly if it is live there besides
       pub bound_of : (n at : ℕ) → IsOfBinding p n at → Found at → IsBoundTo p who namespace n
       bound_of n at of found = (of.0, of.1, names_of n at of found, (lives at of.0.binding of.2).0 found.2.1)
 

@@ -5,9 +5,9 @@ use Rattle.rbac_terms.specs.Principals.{account_user, account_principal}
 use Rattle.rbac_terms.specs.declared.granting.Subject.{Subject}
 use Rattle.rbac_terms.specs.declared.granting.Subject.TheVariants.{User, Group, Account}
 
--- a subject names who asks: the user of its name, anyone in its group, or the user of its service
--- account (Using RBAC Authorization, Referring to subjects); an account without a namespace takes
--- the binding's, and names nobody if the binding has none (own)
+-- a subject names the principal: the user of its name, anyone in its group, or the user of its
+-- service account (Using RBAC Authorization, Referring to subjects); an account without a namespace
+-- takes the binding's, and names nobody if the binding has none (own)
 abbrev pub Names : Subject → Option Text → Who → Type 0
 Names (User name) _ who = IsUserNamed who name
 Names (Group name) _ who = IsInGroup who name

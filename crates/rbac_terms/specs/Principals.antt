@@ -2,13 +2,13 @@ use Rattle.std.specs.Prelude.{◌≡◌, ◌≢◌, List, [], ◌++◌, ◌⊎�
 use Rattle.std.specs.Prelude.{drop}
 use Rattle.rbac_terms.specs.Text.{Text, colon}
 
--- who asks: a user with a name and given groups (Using RBAC Authorization), or an unnamed member of
--- one group (own)
+-- a principal, who asks: a user with a name and given groups (Using RBAC Authorization), or an
+-- unnamed member of one group (own)
 pub data Who : Type 0 where
   AsUser : (name : Text) (given : List Text) → Who
   AsMember : (group : Text) → Who
 
--- the key of who asks: `u:` and the user's name, or `g:` and the group's (own)
+-- the key of a principal: `u:` and the user's name, or `g:` and the group's (own)
 abbrev pub who_key : Who → Text
 who_key (AsUser name given) = codes "u:" ++ name
 who_key (AsMember group) = codes "g:" ++ group
@@ -17,8 +17,8 @@ who_key (AsMember group) = codes "g:" ++ group
 abbrev pub account_user : Text → Text → Text
 account_user namespace name = codes "system:serviceaccount:" ++ namespace ++ codes ":" ++ name
 
--- who asks as a service account: its user, without further groups (Using RBAC Authorization,
--- Referring to subjects)
+-- the principal that a service account is: its user, without further groups (Using RBAC
+-- Authorization, Referring to subjects)
 abbrev pub account_principal : Text → Text → Who
 account_principal namespace name = AsUser (account_user namespace name) []
 
@@ -59,8 +59,8 @@ IsSignInGroup user given g =
 abbrev pub IsImpliedGroup : Text → List Text → Text → Type 0
 IsImpliedGroup user given g = IsAccountGroup user g ⊎ IsSignInGroup user given g
 
--- the groups of who asks: for a user, the given and the implied ones (Using RBAC Authorization);
--- for a member of a group, that group alone (own)
+-- the groups of a principal: for a user, the given and the implied ones (Using RBAC
+-- Authorization); for a member of a group, that group alone (own)
 abbrev pub IsInGroup : Who → Text → Type 0
 IsInGroup (AsUser name given) g = Contains given g ⊎ IsImpliedGroup name given g
 IsInGroup (AsMember group) g = g ≡ group
@@ -75,23 +75,24 @@ abbrev pub given_of : Who → List Text
 given_of (AsUser name given) = given
 given_of (AsMember group) = []
 
--- who asks is the user of that name, whatever its groups (Using RBAC Authorization, Referring to
--- subjects)
+-- the principal is the user of that name, whatever its groups (Using RBAC Authorization, Referring
+-- to subjects)
 abbrev pub IsUserNamed : Who → Text → Type 0
 IsUserNamed (AsUser name given) wanted = name ≡ wanted
 IsUserNamed (AsMember group) wanted = ⊥
 
--- who asks is a service account of that namespace (Using RBAC Authorization, Referring to subjects)
+-- the principal is a service account of that namespace (Using RBAC Authorization, Referring to
+-- subjects)
 abbrev pub IsAccountIn : Who → Text → Type 0
 IsAccountIn (AsUser name given) namespace = IsAccountOf name namespace
 IsAccountIn (AsMember group) namespace = ⊥
 
--- the group that shows whether who asks has signed in; a member of a group has none (own)
+-- the group that shows whether the principal has signed in; a member of a group has none (own)
 abbrev pub SignsInAs : Who → Text → Type 0
 SignsInAs (AsUser name given) g = IsSignInGroup name given g
 SignsInAs (AsMember group) g = ⊥
 
--- who asks, from the program's fields: a flag that is true for a user, the key, and the given
+-- the principal, from the program's fields: a flag that is true for a user, the key, and the given
 -- groups
 abbrev pub who_of : Bool → Text → List Text → Who
 who_of true key given = AsUser (drop 2 key) given
