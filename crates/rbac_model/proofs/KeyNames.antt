@@ -1,6 +1,6 @@
 -- a subject names the principal exactly where its key is that of the principal, or of one of its
 -- groups
-use Rattle.std.proofs.Common.{◌≡◌, List, [], ◌++◌, ap, sym, refl, subst, inl, inr}
+use Rattle.std.proofs.Common.{◌≡◌, [], ◌++◌, ap, sym, refl, subst, inl, inr}
 use Rattle.std.specs.Prelude.{Option, Some, None, codes}
 use Rattle.std.proofs.lemmas.List.{append_cancel_left}
 use Rattle.rbac_terms.specs.Text.{Text}

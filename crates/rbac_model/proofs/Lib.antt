@@ -28,6 +28,7 @@ pub mod PlaceSets
 pub mod Searched
 pub mod Sourced
 pub mod Stairs
+pub mod SubjectPrincipals
 pub mod UpTo
 pub mod UrlSamples
 pub mod UrlWords

@@ -11,7 +11,7 @@ use Rattle.rbac_terms.specs.Text.{Text}
 use Rattle.rbac_terms.specs.Targets.{What, Resource, Url}
 use Rattle.rbac_terms.specs.Principals.{Who}
 use Rattle.rbac_terms.specs.Selecting.{Selects}
-use Rattle.rbac_terms.specs.Granting.{Names}
+use Rattle.rbac_terms.specs.Granting.{Names, subject_principal}
 use Rattle.rbac_terms.specs.Matching.{RuleAllows}
 use Rattle.rbac_terms.specs.declared.matching.Rule.{Rule}
 use Rattle.rbac_model.specs.declared.objects.Object.{Object}
@@ -223,6 +223,11 @@ Live (Some namespace) asked (Url _) = ⊥
 -- some subject of the binding names the principal (Using RBAC Authorization, Referring to subjects)
 abbrev pub BindingNames : Binding → Who → Type 0
 BindingNames b who = Any (λ subject. Names subject b.namespace who) b.subjects
+
+-- some binding has a subject that stands for the principal (own)
+abbrev pub HasSubject : Held → Who → Type 0
+HasSubject h who =
+    Any (λ b. Any (λ s. subject_principal b.namespace s ≡ Some who) b.subjects) h.bindings
 
 -- the binding brings a rule that allows the verb on the target
 abbrev pub Brings : Held → Binding → Text → What → Type 0

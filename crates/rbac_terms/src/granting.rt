@@ -1,7 +1,8 @@
 //! Roles, and the bindings that grant them.
 
-ghost use Rattle.std.specs.Prelude.{◌≡◌, IsTrue, ◌↔◌, IfOk, IsOkAnd, None};
+ghost use Rattle.std.specs.Prelude.{◌≡◌, ◌++◌, IsTrue, ◌↔◌, IfOk, IsOkAnd, None, OnOk};
 ghost use Rattle.std.specs.Prelude.{MatchOption, option_copied, []};
+ghost use Rattle.std.specs.List.{filter_map};
 ghost use Rattle.std.specs.Option.{option_or};
 ghost use Rattle.rbac_terms.specs.Text.{Text};
 ghost use Rattle.rbac_terms.specs.Granting.{Names, IsSubjectKey, named, subject_principal};
@@ -199,6 +200,24 @@ pub fn subject_principal(
             Ok(Some(Principal::account(alloc, namespace, name)?))
         }
     }
+}
+
+/// Adds the principals that the binding's subjects stand for, in their written order, with repeats
+/// (own). Fails only if it runs out of memory.
+pub fn put_principals(
+    alloc: Global,
+    binding: &Binding,
+    list: &mut Vec<Principal>,
+) -> Result<(), AllocError>
+    ensures { OnOk result (list.new.items ≡ list.old.items
+        ++ filter_map (subject_principal binding.now.namespace) binding.now.subjects) }
+{
+    for subject in binding.subjects.as_slice() {
+        if let Some(principal) = subject_principal(alloc, subject, binding.namespace.as_ref())? {
+            list.push(principal)?;
+        }
+    }
+    Ok(())
 }
 
 // The user of this name, unless the name is empty.

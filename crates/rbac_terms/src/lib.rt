@@ -19,7 +19,8 @@ mod text;
 
 pub use fault::ModelFault;
 pub use granting::{
-    Binding, ClusterRole, Role, RoleRef, Subject, Subjects, names, subject_key, subject_principal,
+    Binding, ClusterRole, Role, RoleRef, Subject, Subjects, names, put_principals, subject_key,
+    subject_principal,
 };
 pub use items::Items;
 pub use keys::Key;

@@ -5,7 +5,7 @@ ghost use Rattle.std.specs.Prelude.{MatchOption, IfOk, IfErr, OnOk, OnErr, Conta
 ghost use Rattle.rbac_terms.specs.Text.{Text};
 ghost use Rattle.rbac_terms.specs.Targets.{Resource, Url, IsProper, IsUrl, IsResource, group_of};
 ghost use Rattle.rbac_terms.specs.Targets.{text_of, name_of, IsPath, IsResourceText, is_path};
-ghost use Rattle.rbac_terms.specs.Principals.{AsUser, AsMember, who_key, who_name};
+ghost use Rattle.rbac_terms.specs.Principals.{Who, AsUser, AsMember, who_of, who_key, who_name};
 ghost use Rattle.rbac_terms.specs.Principals.{given_of, IsUserNamed, IsInGroup, account_user};
 ghost use Rattle.rbac_terms.specs.Principals.{account_principal};
 ghost use Rattle.rbac_terms.specs.Principals.{IsAccountOf, IsAccountGroup, IsGroupOfAccounts};
@@ -242,6 +242,24 @@ impl Principal {
         })
     }
 
+    /// The user or the member of a group that has this key, with no groups given (own); `None` for
+    /// a text that is nobody's key. Fails only if it runs out of memory.
+    pub fn from_key(alloc: Global, key: &Word) -> Result<Option<Self>, AllocError>
+        ensures { IfOk result (λ found. MatchOption found
+            ((who : Who) → who_name who ≢ [] → who_key who ≢ key.now)
+            (λ who. (who_key who ≡ key.now) × (who_name who ≢ []) × (given_of who ≡ []))) }
+    {
+        let bytes = key.as_bytes();
+        let Some(is_user) = is_of_user(bytes) else {
+            return Ok(None);
+        };
+        Ok(Some(Principal {
+            is_user,
+            key: Word::from_slice(alloc, bytes)?,
+            given: GivenGroups::new(alloc),
+        }))
+    }
+
     /// Adds to a user's given groups those of `more`, a principal with the same key; a member of a
     /// group has no given groups (own). Fails only if it runs out of memory, and then leaves the
     /// principal unchanged.
@@ -360,6 +378,33 @@ impl Principal {
         } else {
             self.name() == group.as_bytes()
         }
+    }
+}
+
+// Whether a key is a user's and not that of a member of a group; `None` for a text that is nobody's
+// key.
+fn is_of_user(key: &[u8]) -> Option<bool>
+    ensures { MatchOption result ((who : Who) → who_name who ≢ [] → who_key who ≢ key.now)
+        (λ is_user. (key.now ≡ who_key (who_of is_user key.now []))
+        × (who_name (who_of is_user key.now []) ≢ [])) }
+{
+    if is_named_behind(key, USER_PREFIX) {
+        Some(true)
+    } else if is_named_behind(key, MEMBER_PREFIX) {
+        Some(false)
+    } else {
+        None
+    }
+}
+
+// Whether the key is this prefix and a name.
+fn is_named_behind(key: &[u8], prefix: &[u8]) -> bool
+    ensures { IsTrue result
+        ↔ ((name : Text) × (name ≢ []) × (key.now ≡ prefix.now ++ name)) }
+{
+    match after_prefix(key, prefix) {
+        Some(name) => !name.is_empty(),
+        None => false,
     }
 }
 
