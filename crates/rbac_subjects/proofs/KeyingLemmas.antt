@@ -2,7 +2,7 @@
 use Rattle.std.proofs.Common.{◌≡◌, ℕ, ◌+◌, ◌<◌, ◌≤◌, List, [], ◌∷◌, ◌++◌, length, slice_get, Contains, ap, sym, ◌∙◌, subst, arith, inl, inr, ◌⊎◌, ◌↔◌}
 use Rattle.std.specs.Prelude.{Some}
 use Rattle.std.specs.List.Sorted.{IsPermutation, IsSorted}
-use Rattle.std.proofs.lemmas.Bool.{cases_eq, cases_lt}
+use Rattle.std.proofs.lemmas.Bool.{cases_lt}
 use Rattle.std.proofs.lemmas.List.Elements.{Contains-append_left, Contains-push, Contains-push_cases}
 use Rattle.std.proofs.lemmas.List.Sorted.{Contains-permutation, IsPermutation-sym}
 use Rattle.std.proofs.lemmas.Option.{same_Some, slice_get_within, get_or_from_slice_get, slice_get-get_or}
@@ -11,9 +11,9 @@ use Rattle.rbac_terms.specs.Granting.{IsSubjectKey}
 use Rattle.rbac_terms.specs.declared.granting.Binding.{Binding}
 use Rattle.rbac_terms.specs.declared.granting.Subject.{Subject}
 use Rattle.rbac_model.specs.Policies.{PolicyView, IsPolicy, IsOfBinding}
-use Rattle.rbac_model.proofs.BindingPlaces.{of_some_binding}
+use Rattle.rbac_model.proofs.BindingPlaces.{one_binding_place}
 use Rattle.rbac_subjects.specs.declared.subject_keys.Keyed.{Keyed}
-use Rattle.rbac_subjects.specs.Keyed.{keyed, keyed_cmp, IsKeyedAt, HasGrants, HasKeysOf, AreKeyed}
+use Rattle.rbac_subjects.specs.Keyed.{keyed, keyed_cmp, IsKeyedAt, HasKeysOf, AreKeyed}
 use Rattle.rbac_model.specs.Holders.{HasKey}
 
 -- one of so many first subjects of the binding has the key
@@ -24,9 +24,13 @@ IsKeyAmong b count key = (at : ℕ) × (s : Subject) × (at < count) × (slice_g
 abbrev pub HasKeysBelow : List Keyed → List Keyed → Binding → ℕ → ℕ → Type 0
 HasKeysBelow old new b place count = (x : Keyed) → Contains new x ↔ (Contains old x ⊎ ((x.place ≡ place) × IsKeyAmong b count x.key))
 
--- exactly the keys of the subjects of those of so many first bindings that have grants
+-- one of so many first grants belongs to the binding at that place
+abbrev pub HasOneBelow : PolicyView → ℕ → ℕ → Type 0
+HasOneBelow p count place = (n : ℕ) × (n < count) × IsOfBinding p n place
+
+-- exactly the keys of the subjects of the bindings of so many first grants
 abbrev pub AreKeyedBelow : PolicyView → ℕ → List Keyed → Type 0
-AreKeyedBelow p count xs = (x : Keyed) → Contains xs x ↔ ((x.place < count) × HasGrants p x.place × IsKeyedAt p.held.bindings x.key x.place)
+AreKeyedBelow p count xs = (x : Keyed) → Contains xs x ↔ (HasOneBelow p count x.place × IsKeyedAt p.held.bindings x.key x.place)
 
 module _ (old mid : List Keyed) (b : Binding) (place n : ℕ) (s : Subject) (there : slice_get b.subjects n ≡ Some s) (has : HasKeysBelow old mid b place n) where
   last_key : (key : Text) → IsKeyAmong b (n + 1) key → IsKeyAmong b n key ⊎ IsSubjectKey s b.namespace key
@@ -86,45 +90,59 @@ keys_all old new b place count all has x =
     )
 
 pub keyed_none : (p : PolicyView) → AreKeyedBelow p 0 []
-keyed_none p x = (λ c. absurd (omega (arith, c.1)), λ w. absurd (omega (arith, w.0)))
+keyed_none p x = (λ c. absurd (omega (arith, c.1)), λ w. absurd (omega (arith, w.0.1)))
 
-module _ (p : PolicyView) (ok : IsPolicy p) (old : List Keyed) (place : ℕ) (b : Binding) (there : slice_get p.held.bindings place ≡ Some b) (below : AreKeyedBelow p place old) where
-  key_here : (key : Text) → IsKeyedAt p.held.bindings key place → HasKey b key
-  key_here key w = subst (λ (c : Binding). HasKey c key) (same_Some w.0 b (sym w.1 ∙ there)) w.2
+-- one grant more, of the binding at that place
+module _ (p : PolicyView) (ok : IsPolicy p) (count place : ℕ) (of : IsOfBinding p count place) (old : List Keyed) (below : AreKeyedBelow p count old) where
+  this_or_earlier : (at : ℕ) → HasOneBelow p (count + 1) at → (at ≡ place) ⊎ HasOneBelow p count at
+  this_or_earlier at has = elim (cases_lt has.0 count) [
+    | inl low ↦ inr (has.0, low, has.2)
+    | inr high ↦
+        let same : has.0 ≡ count = omega (arith, high, has.1) in
+        inl (one_binding_place p ok count at place (subst (λ (n : ℕ). IsOfBinding p n at) same has.2) of)
+  ]
 
-  pub keyed_more : (new : List Keyed) (from to : ℕ) → from < to → to ≤ length p.grants → ((n at : ℕ) → IsOfBinding p n at → ((from ≤ n) × (n < to)) ↔ (at ≡ place)) → HasKeysOf old new b place → AreKeyedBelow p (place + 1) new
-  keyed_more new from to some within between has x =
-      let first = of_some_binding p ok from (omega (arith, some, within)) in
-      let here : first.0 ≡ place = (between from first.0 first.1).0 (omega arith, some) in
-      let grants : HasGrants p place = (from, subst (IsOfBinding p from) here first.1) in (
-        λ c. elim ((has x).0 c) [
-          | inl o ↦ let w = (below x).0 o in (omega (arith, w.0), w.1, w.2)
-          | inr w ↦ (
-            omega (arith, w.0),
-            subst (HasGrants p) (sym w.0) grants,
-            subst (IsKeyedAt p.held.bindings x.key) (sym w.0) (b, there, w.1),
-          )
-        ],
-        λ w. (has x).1 (elim (cases_eq x.place place) [
-          | inl e ↦ inr (e, key_here x.key (subst (IsKeyedAt p.held.bindings x.key) e w.2))
-          | inr ne ↦ inl ((below x).1 (omega (arith, w.0), w.1, w.2))
-        ]),
-      )
+  pub has_later : (at : ℕ) → HasOneBelow p count at → HasOneBelow p (count + 1) at
+  has_later at has = (has.0, omega (arith, has.1), has.2)
 
-  pub keyed_without : (from to : ℕ) → to ≤ from → ((n at : ℕ) → IsOfBinding p n at → ((from ≤ n) × (n < to)) ↔ (at ≡ place)) → AreKeyedBelow p (place + 1) old
-  keyed_without from to none between x = (
-    λ c. let w = (below x).0 c in (omega (arith, w.0), w.1, w.2),
-    λ w. elim (cases_eq x.place place) [
-      | inl e ↦ let g = (between w.1.0 x.place w.1.1).1 e in absurd (omega (arith, g.0, g.1, none))
-      | inr ne ↦ (below x).1 (omega (arith, w.0), w.1, w.2)
-    ],
+  pub has_this : HasOneBelow p (count + 1) place
+  has_this = (count, omega arith, of)
+
+  -- its keys are listed already
+  pub keyed_same : HasOneBelow p count place → AreKeyedBelow p (count + 1) old
+  keyed_same has x = (
+    λ c. let w = (below x).0 c in (has_later x.place w.0, w.1),
+    λ w. (below x).1 (elim (this_or_earlier x.place w.0) [
+      | inl e ↦ (subst (HasOneBelow p count) (sym e) has, w.1)
+      | inr earlier ↦ (earlier, w.1)
+    ]),
   )
 
-pub keyed_all : (p : PolicyView) (count : ℕ) (xs new : List Keyed) → length p.held.bindings ≤ count → AreKeyedBelow p count xs → IsPermutation xs new → IsSorted keyed_cmp new → AreKeyed p new
+  -- or are added now
+  module _ (b : Binding) (there : slice_get p.held.bindings place ≡ Some b) (new : List Keyed) (has : HasKeysOf old new b place) where
+    key_here : (key : Text) → IsKeyedAt p.held.bindings key place → HasKey b key
+    key_here key w = subst (λ (c : Binding). HasKey c key) (same_Some w.0 b (sym w.1 ∙ there)) w.2
+
+    pub keyed_more : AreKeyedBelow p (count + 1) new
+    keyed_more x = (
+      λ c. elim ((has x).0 c) [
+        | inl o ↦ let w = (below x).0 o in (has_later x.place w.0, w.1)
+        | inr w ↦ (
+          subst (HasOneBelow p (count + 1)) (sym w.0) has_this,
+          subst (IsKeyedAt p.held.bindings x.key) (sym w.0) (b, there, w.1),
+        )
+      ],
+      λ w. (has x).1 (elim (this_or_earlier x.place w.0) [
+        | inl e ↦ inr (e, key_here x.key (subst (IsKeyedAt p.held.bindings x.key) e w.1))
+        | inr earlier ↦ inl ((below x).1 (earlier, w.1))
+      ]),
+    )
+
+pub keyed_all : (p : PolicyView) (count : ℕ) (xs new : List Keyed) → length p.grants ≤ count → AreKeyedBelow p count xs → IsPermutation xs new → IsSorted keyed_cmp new → AreKeyed p new
 keyed_all p count xs new all below moved up = record {
   sorted = up;
   exact = λ x. (
-    λ c. let w = (below x).0 (Contains-permutation new xs x (IsPermutation-sym xs new moved) c) in (w.1, w.2),
-    λ w. Contains-permutation xs new x moved ((below x).1 (omega (arith, all, slice_get_within p.held.bindings x.place w.1.0 w.1.1), w.0, w.1)),
+    λ c. let w = (below x).0 (Contains-permutation new xs x (IsPermutation-sym xs new moved) c) in ((w.0.0, w.0.2), w.1),
+    λ w. Contains-permutation xs new x moved ((below x).1 ((w.0.0, omega (arith, all, slice_get_within p.grants w.0.0 w.0.1.0 w.0.1.1), w.0.1), w.1)),
   );
 }

@@ -7,4 +7,5 @@ pub mod LivingLemmas
 pub mod NamedLemmas
 pub mod NamespaceLemmas
 pub mod NextRunLemmas
+pub mod PrincipalLemmas
 pub mod TakingLemmas

@@ -1,10 +1,11 @@
 -- The bindings under the keys of their subjects.
-use Rattle.std.specs.Prelude.{◌≡◌, ℕ, ◌<◌, ◌≤◌, ◌⊎◌, ◌↔◌, List, Option, Some, None}
+use Rattle.std.specs.Prelude.{◌≡◌, ◌≢◌, ℕ, ◌<◌, ◌≤◌, ◌⊎◌, ◌↔◌, List, [], Option, Some, None}
 use Rattle.std.specs.Prelude.{Contains, MatchOption, slice_get, min, true, false}
 use Rattle.std.specs.Ordering.{is_lt, nat_cmp, ordering_then}
 use Rattle.std.specs.List.Sorted.{IsPartitionPoint, IsSorted}
 use Rattle.std.specs.declared.cmp.Ordering.{Ordering}
 use Rattle.rbac_terms.specs.Text.{Text, text_cmp}
+use Rattle.rbac_terms.specs.Principals.{Who, given_of, who_key, who_name}
 use Rattle.rbac_terms.specs.declared.granting.Binding.{Binding}
 use Rattle.rbac_model.specs.Policies.{PolicyView, IsOfBinding}
 use Rattle.rbac_model.specs.Holders.{HasKey}
@@ -31,6 +32,15 @@ keyed key place = record { key = key; place = place }
 abbrev pub HasKeysOf : List Keyed → List Keyed → Binding → ℕ → Type 0
 HasKeysOf old new b place = (x : Keyed) → Contains new x
     ↔ (Contains old x ⊎ ((x.place ≡ place) × HasKey b x.key))
+
+-- some entry has the key of the principal, who has a name and is given no groups
+abbrev pub IsListed : List Keyed → Who → Type 0
+IsListed xs who = (who_name who ≢ []) × (given_of who ≡ []) × (place : ℕ)
+    × Contains xs (keyed (who_key who) place)
+
+-- some entry has that place
+abbrev pub HasEntry : List Keyed → ℕ → Type 0
+HasEntry xs place = (key : Text) × Contains xs (keyed key place)
 
 -- exactly the entries before place `at` come before y
 abbrev pub IsFirstEntry : List Keyed → Keyed → ℕ → Type 0

@@ -11,6 +11,7 @@ mod named_places;
 mod principal_keys;
 mod subject_index;
 mod subject_keys;
+mod subject_principals;
 
 pub use fault::IndexFault;
 pub use first_runs::{FirstRuns, Run};

@@ -1,9 +1,10 @@
 //! The bindings of a policy, found by the principals that they name.
 
-ghost use Rattle.std.specs.Prelude.{◌≡◌, ◌≤◌, ◌↔◌, ℕ, length, IsTrue, IfOk, IfSome};
-ghost use Rattle.std.specs.Prelude.{option_copied, true, false};
+ghost use Rattle.std.specs.Prelude.{◌≡◌, ◌≤◌, ◌↔◌, ℕ, [], length, IsTrue, IfOk, IfSome, All};
+ghost use Rattle.std.specs.Prelude.{option_copied, true, false, Contains};
+ghost use Rattle.rbac_terms.specs.Principals.{Who, given_of};
 ghost use Rattle.rbac_model.specs.Holders.{IsKeyFor};
-ghost use Rattle.rbac_model.specs.Policies.{IsPolicy};
+ghost use Rattle.rbac_model.specs.Policies.{HasSubject, IsPolicy};
 ghost use Rattle.rbac_subjects.specs.Bound.{AreNamedPlaces, AreRunsFrom, HasRoleBindings};
 ghost use Rattle.rbac_subjects.specs.Bound.{IsBoundTo, IsNamedBy};
 ghost use Rattle.rbac_subjects.specs.Bound.{AnswersNextNamespace, AnswersNextRun};
@@ -16,6 +17,7 @@ use crate::first_runs::{FirstRuns, runs_at};
 use crate::live_bindings::{Live, everywhere, first_from, live_for_some, of_namespace};
 use crate::named_places::places_under;
 use crate::subject_keys::{Keyed, keyed_by, next_for};
+use crate::subject_principals::principals_of;
 use rbac_model::Policy;
 use rbac_terms::{Principal, Word};
 use std::alloc::{AllocError, Global};
@@ -118,6 +120,17 @@ impl<'p> SubjectIndex<'p> {
     {
         let end = self.policy.bindings().len();
         places_under(alloc, self.named.as_slice(), principal, end)
+    }
+
+    /// The principals that the subjects of the policy's bindings stand for, whether or not the
+    /// bindings have grants, in any order and with repeats (own). No user has given groups. Fails
+    /// only if it runs out of memory.
+    pub fn principals(&self, alloc: Global) -> Result<Vec<Principal>, AllocError>
+        ensures exact { IfOk result
+            (λ found. (who : Who) → Contains found.items who ↔ HasSubject self.now.held who) }
+        ensures given { IfOk result (λ found. All (λ who. given_of who ≡ []) found.items) }
+    {
+        principals_of(alloc, self.policy, self.named.as_slice())
     }
 
     /// The first runs of the grants of bindings that name the principal and are live in this

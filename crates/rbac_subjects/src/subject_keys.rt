@@ -27,11 +27,15 @@ pub(crate) struct Keyed {
 pub(crate) fn keyed_by(alloc: Global, policy: &Policy) -> Result<Vec<Keyed>, AllocError>
     ensures { IfOk result (λ v. AreKeyed policy.now v.items) }
 {
+    let bindings = policy.bindings();
     let mut entries = Vec::new(alloc);
-    for (place, binding) in policy.bindings().iter().enumerate() {
-        let (from, to) = policy.grants_of(place);
-        if from < to {
-            push_keys(alloc, binding, place, &mut entries)?;
+    let mut last = None;
+    for number in 0..policy.len() {
+        let place = policy.place(number).binding;
+        // The grants of a binding follow each other.
+        if last != Some(place) {
+            push_keys(alloc, &bindings[place], place, &mut entries)?;
+            last = Some(place);
         }
     }
     entries.sort_unstable_by(|a, b| cmp_keyed(a, b));
