@@ -1,12 +1,13 @@
 -- The paths and the ways over the users and groups that are named, each once.
-use Rattle.std.proofs.Common.{◌≡◌, ◌↔◌, ◌∙◌, ℕ, List, [], ◌∷◌, All, Contains, ap, ap₂, get_or, inl, inr, subst, sym, ◌<◌, length, arith}
+use Rattle.std.proofs.Common.{◌≡◌, ◌↔◌, ◌∙◌, ◌++◌, ◌⊎◌, ℕ, List, [], ◌∷◌, All, Contains, ap, ap₂, get_or, inl, inr, subst, sym, ◌<◌, length, arith}
 use Rattle.std.specs.Cmp.Lexicographic.{slice_cmp}
 use Rattle.std.proofs.lemmas.List.{get_or_default}
+use Rattle.std.proofs.lemmas.List.Elements.{Contains-append_cases, Contains-append_left, Contains-append_right}
 use Rattle.std.proofs.lemmas.Map.Keys.{Less-from_sorted}
 use Rattle.rbac_terms.specs.Text.{Text, text_cmp}
 use Rattle.rbac_terms.specs.Principals.{Who, given_of, who_key}
 use Rattle.rbac_model.specs.Lists.{by_name, IsAscendingBy, IsOnceEach}
-use Rattle.rbac_model.specs.Policies.{PolicyView}
+use Rattle.rbac_model.specs.Policies.{HasSubject, Held, PolicyView}
 use Rattle.rbac_model.specs.Unions.{who_texts}
 use Rattle.rbac_document.specs.Names.{principal_name}
 use Rattle.rbac_paths.specs.Access.{AccessView}
@@ -27,6 +28,17 @@ by_keys named each none once i j d lt l =
     key_alone (get_or each k d) (subst (λ (who : Who). given_of who ≡ []) w.2 (none w.0 (get_or each k d) w.1))) in
     let less = Less-from_sorted (by_name principal_name) each i j d once.ascending lt l in
     ap₂ (λ (m : List Text) (n : List Text). slice_cmp text_cmp m n) (sym (alone i (omega (arith, lt, l)))) (sym (alone j l)) ∙ less
+
+-- the principals of bindings' subjects and the users of accounts are all that are named
+pub all_named : (h : Held) (principals stood users all : List Who) → ((who : Who) → Contains stood who ↔ HasSubject h who) → ((who : Who) → Contains principals who ↔ (HasSubject h who ⊎ Contains users who)) → all ≡ stood ++ users
+    → (who : Who) → Contains all who ↔ Contains principals who
+all_named h principals stood users all exact rest is who = (
+  λ c. (rest who).1 (elim (Contains-append_cases stood users who (subst (λ (l : List Who). Contains l who) is c)) [ inl s ↦ inl ((exact who).0 s) | inr u ↦ inr u ]),
+  λ c. subst (λ (l : List Who). Contains l who) (sym is) (elim ((rest who).0 c) [
+    | inl s ↦ Contains-append_left stood users who ((exact who).1 s)
+    | inr u ↦ Contains-append_right stood users who u
+  ]),
+)
 
 module _ (principals named : List Who) (same : (who : Who) → Contains principals who ↔ Contains named who) where
   one_too : (asked other : Who) → IsOneWith principals asked other ↔ IsOneWith named asked other

@@ -38,7 +38,7 @@ pub(crate) fn print_paths<W: Write + Drop>(
 {
     let policy = export.policy();
     let index = SubjectIndex::build(alloc, policy)?;
-    let principals = principals_of(alloc, export)?;
+    let principals = principals_of(alloc, export, &index)?;
     let found = paths(
         alloc,
         policy,
@@ -51,12 +51,19 @@ pub(crate) fn print_paths<W: Write + Drop>(
 }
 
 /// The users and groups that bindings and ServiceAccount objects name, each once, in order of keys.
-pub(crate) fn principals_of(alloc: Global, export: &Export) -> Result<Principals, AllocError>
+pub(crate) fn principals_of(
+    alloc: Global,
+    export: &Export,
+    index: &SubjectIndex<'_>,
+) -> Result<Principals, AllocError>
+    requires { index.now ≡ export.now.policy }
     ensures ordered { IfOk result (IsAscendingBy who_texts) }
     ensures exact { IfOk result
         (λ each. (who : Who) → Contains each who ↔ Contains export.now.principals who) }
 {
-    principals_once_each(export.principals(alloc)?)
+    let mut named = index.principals(alloc)?;
+    named.append(&mut export.account_users(alloc)?.into_vec())?;
+    principals_once_each(Principals::from_vec(named))
 }
 
 impl HasLine for Path<'_> {

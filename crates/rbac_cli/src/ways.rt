@@ -42,7 +42,7 @@ pub(crate) fn print_ways<W: Write + Drop>(
     };
     let policy = export.policy();
     let index = SubjectIndex::build(alloc, policy)?;
-    let principals = principals_of(alloc, export)?;
+    let principals = principals_of(alloc, export, &index)?;
     let found = ways_to(alloc, policy, &index, principals.as_slice(), steps, access)?;
     print_lines(alloc, &mut found.as_slice().iter(), Status::Zero, output)
 }

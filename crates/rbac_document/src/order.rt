@@ -110,7 +110,8 @@ fn in_order<T: Ordered + Drop>(listed: Items<T>) -> Result<Items<T>, AllocError>
     ensures { IfOk result (IsOnceEach (by_name T.name) listed) }
 {
     let mut entries = listed.into_vec();
-    entries.sort_unstable_by(|a, b| a.cmp_name(b));
+    // (a stable sort keeps runs that are in order, as principals of an index are)
+    entries.sort_by(|a, b| a.cmp_name(b))?;
     entries.dedup_by(|a, b| a.cmp_name(b).is_eq());
     Ok(Items::from_vec(entries))
 }

@@ -1,34 +1,32 @@
 //! The lists that are derived from the objects that are kept.
 
-ghost use Rattle.std.specs.Prelude.{◌≡◌, ◌++◌, [], All, IfOk, OnOk, map};
+ghost use Rattle.std.specs.Prelude.{◌≡◌, ◌++◌, IfOk, OnOk, map};
 ghost use Rattle.std.specs.List.{flat_map, filter_map};
-ghost use Rattle.rbac_terms.specs.Principals.{given_of};
 ghost use Rattle.rbac_lists.specs.Derived.{principals_of, namespaces_of, verbs_of, resources_of};
 ghost use Rattle.rbac_lists.specs.Derived.{names_of, urls_of, as_listed};
 
 use crate::given_lists::Account;
 use crate::naming::{Names, Resources, Urls, Verbs, as_listed, put_named};
-use crate::principals::{put_accounts, put_subjects};
+use crate::principals::put_accounts;
 use crate::texts::{copy_of, is_path_word, is_verb, put_words};
 use rbac_catalogue::{Catalogue, Entry};
 use rbac_model::Objects;
-use rbac_terms::{Binding, Role, Word, Words};
+use rbac_terms::{Binding, Role, Word, Words, put_principals};
 use rbac_universe::{ListedResource, ListedResources, Principals};
 use std::alloc::{AllocError, Global};
 
-/// The principals that bindings name, and then the users of service accounts. A principal is listed
-/// as often as it is named (own). No user has given groups. Fails only if it runs out of memory.
-pub fn principals_of(
+// The principals that bindings name, and then the users of service accounts. A principal is listed
+// as often as it is named.
+pub(crate) fn principals_of(
     alloc: Global,
     objects: &Objects,
     accounts: &[Account],
 ) -> Result<Principals, AllocError>
-    ensures list { IfOk result (λ list. list ≡ principals_of objects.now accounts.now) }
-    ensures given { IfOk result (All (λ who. given_of who ≡ [])) }
+    ensures { IfOk result (λ list. list ≡ principals_of objects.now accounts.now) }
 {
     let mut principals = Vec::new(alloc);
     for binding in objects.bindings() {
-        put_subjects(alloc, binding, &mut principals)?;
+        put_principals(alloc, binding, &mut principals)?;
     }
     put_accounts(alloc, accounts, &mut principals)?;
     Ok(Principals::from_vec(principals))

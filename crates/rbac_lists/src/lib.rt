@@ -9,6 +9,6 @@ mod principals;
 mod texts;
 mod universe_lists;
 
-pub use derived_lists::principals_of;
 pub use given_lists::{Account, GivenLists};
+pub use principals::users_of;
 pub use universe_lists::lists_of;

@@ -1,30 +1,12 @@
-//! The principals that bindings name, and those of service accounts.
+//! The users of service accounts.
 
-ghost use Rattle.std.specs.Prelude.{◌≡◌, ◌++◌, OnOk, map};
-ghost use Rattle.std.specs.List.{filter_map};
-ghost use Rattle.rbac_terms.specs.Principals.{account_principal};
-ghost use Rattle.rbac_terms.specs.Granting.{subject_principal};
+ghost use Rattle.std.specs.Prelude.{◌≡◌, ◌++◌, [], All, IfOk, OnOk, map};
+ghost use Rattle.rbac_terms.specs.Principals.{account_principal, given_of};
 
 use crate::given_lists::Account;
-use rbac_terms::{Binding, Principal, subject_principal};
+use rbac_terms::Principal;
+use rbac_universe::Principals;
 use std::alloc::{AllocError, Global};
-
-// Adds the principals of a binding's subjects.
-pub(crate) fn put_subjects(
-    alloc: Global,
-    binding: &Binding,
-    list: &mut Vec<Principal>,
-) -> Result<(), AllocError>
-    ensures { OnOk result (list.new.items ≡ list.old.items
-        ++ filter_map (subject_principal binding.now.namespace) binding.now.subjects) }
-{
-    for subject in binding.subjects.as_slice() {
-        if let Some(principal) = subject_principal(alloc, subject, binding.namespace.as_ref())? {
-            list.push(principal)?;
-        }
-    }
-    Ok(())
-}
 
 // Adds the users of these service accounts.
 pub(crate) fn put_accounts(
@@ -39,4 +21,16 @@ pub(crate) fn put_accounts(
         list.push(Principal::account(alloc, &account.namespace, &account.name)?)?;
     }
     Ok(())
+}
+
+/// The users of these service accounts, without further groups (Using RBAC Authorization,
+/// "Referring to subjects"). Fails only if it runs out of memory.
+pub fn users_of(alloc: Global, accounts: &[Account]) -> Result<Principals, AllocError>
+    ensures list { IfOk result
+        (λ users. users ≡ map (λ a. account_principal a.namespace a.name) accounts.now) }
+    ensures given { IfOk result (All (λ who. given_of who ≡ [])) }
+{
+    let mut users = Vec::new(alloc);
+    put_accounts(alloc, accounts, &mut users)?;
+    Ok(Principals::from_vec(users))
 }

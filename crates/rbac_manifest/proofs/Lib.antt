@@ -1,3 +1,4 @@
+pub mod AccountUsers
 pub mod Beside
 pub mod Chains
 pub mod Elements

@@ -1,6 +1,7 @@
 //! Reads inputs into what they give and the policy that follows from it.
 
-ghost use Rattle.std.specs.Prelude.{◌≡◌, ◌≢◌, [], All, OnOk, IfOk, IfErr, None, Some};
+ghost use Rattle.std.specs.Prelude.{◌≡◌, ◌≢◌, ◌↔◌, ◌⊎◌, [], All, Contains, OnOk, IfOk, IfErr};
+ghost use Rattle.std.specs.Prelude.{None, Some};
 ghost use Rattle.rbac_manifest.specs.declared.fault.Cause.TheVariants.{NoMemory};
 ghost use Rattle.rbac_manifest.specs.Load.{file_refusal, contents_of_file};
 ghost use Rattle.rbac_manifest.specs.Load.{document_fault, all_contents, too_many, IsLoaded};
@@ -11,7 +12,8 @@ ghost use Rattle.rbac_manifest.specs.Names.{names_given};
 ghost use Rattle.rbac_manifest.specs.Reads.{Yields};
 ghost use Rattle.rbac_manifest.specs.Replaced.{AreReplaced, replaced_name};
 ghost use Rattle.rbac_model.specs.Lists.{IsAscendingBy};
-ghost use Rattle.rbac_terms.specs.Principals.{given_of};
+ghost use Rattle.rbac_model.specs.Policies.{HasSubject};
+ghost use Rattle.rbac_terms.specs.Principals.{Who, given_of};
 
 use crate::content::Content;
 use crate::contents::Contents;
@@ -19,7 +21,7 @@ use crate::document_list::text_contents;
 use crate::fault::{Cause, LoadFault, Refusal};
 use crate::replacement::{Replaced, replaced_of};
 use rbac_catalogue::Catalogue;
-use rbac_lists::{Account, GivenLists, lists_of, principals_of};
+use rbac_lists::{Account, GivenLists, lists_of, users_of};
 use rbac_model::{Object, Objects, Policy, ResolveFault};
 use rbac_streams::Input;
 use rbac_terms::Word;
@@ -87,14 +89,15 @@ impl Export {
         &self.catalogue
     }
 
-    /// The principals that bindings name, and the users of ServiceAccount objects, as often as they
-    /// are named, whatever a Universe document lists (own). Each call derives them anew. Fails only
-    /// if it runs out of memory.
-    pub fn principals(&self, alloc: Global) -> Result<Principals, AllocError>
-        ensures principals { IfOk result (λ list. list ≡ self.now.principals) }
+    /// The users of ServiceAccount objects, as often as the accounts are given, whatever a Universe
+    /// document lists (own). With the principals that subjects of bindings stand for they are all
+    /// that the export names. Each call derives them anew. Fails only if it runs out of memory.
+    pub fn account_users(&self, alloc: Global) -> Result<Principals, AllocError>
+        ensures users { IfOk result (λ users. (who : Who) → Contains self.now.principals who
+            ↔ (HasSubject self.now.policy.held who ⊎ Contains users who)) }
         ensures given { IfOk result (All (λ who. given_of who ≡ [])) }
     {
-        principals_of(alloc, self.policy().objects(), self.accounts.as_slice())
+        users_of(alloc, self.accounts.as_slice())
     }
 
     /// The objects given by several documents, in order of kind, namespace and name, each with how

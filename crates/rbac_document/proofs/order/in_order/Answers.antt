@@ -8,7 +8,7 @@ use Rattle.rbac_document.proofs.order.in_order.Goals as goal
 pub returns : goal.returns
 returns g c =
     let name = g.T.Ordered.name in
-    let sorted = c.sort_unstable_by.ensures.sorted (λ x y. is_lt (by_name name x y)) (ranks name)
+    let sorted = c.in_ok-sort_by.ensures.sorted (λ x y. is_lt (by_name name x y)) (ranks name)
     (answers_by _ _ (λ f. Unit {0}) (λ f a r h called met. (search rules, tt)) _ tt) in
     let kept = dedup_same _ (eq_by_cmp (by_name name)) _ (λ x y b f' x' y' k. search rules) _ _ c.dedup_by.ensures.filtered in
-    rw c.from_vec.ensures (once_named name g.T.Ordered.named g.T.Ordered.named_name c.args.listed c.sort_unstable_by.new.self.items c.dedup_by.new.self.items (rw c.into_vec-entries.ensures at c.sort_unstable_by.ensures.permutation) sorted kept)
+    rw c.from_vec.ensures (once_named name g.T.Ordered.named g.T.Ordered.named_name c.args.listed c.sort_by.new.self.items c.dedup_by.new.self.items (rw c.into_vec-entries.ensures at c.sort_by.ensures.permutation) sorted kept)
