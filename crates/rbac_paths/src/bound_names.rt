@@ -52,6 +52,10 @@ fn add_of_rule(rows: &[WordRow], rule: &Rule, names: &mut Vec<Word>) -> Result<(
     requires { AreOfStep Bind table rows.now }
     ensures { OnOk result (AddsWhere (BindsNamed rule.now) names.old.items names.new.items) }
 {
+    // Most rules aren't limited to names, which is told sooner than what they match.
+    if rule.resource_names.is_empty() {
+        return Ok(());
+    }
     if matches_some(rows, rule) {
         names.extend_with_clones(rule.resource_names.as_slice())?;
     }

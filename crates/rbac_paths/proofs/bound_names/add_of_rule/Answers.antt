@@ -1,4 +1,4 @@
-use Rattle.std.proofs.Common.{◌≡◌, ◌∙◌, ◌++◌, List, Contains, ap, subst, sym}
+use Rattle.std.proofs.Common.{◌≡◌, ◌∙◌, ◌++◌, [], List, Contains, ap, arith, subst, sym}
 use Rattle.std.proofs.lemmas.List.Elements.{same_from_all_zip}
 use Rattle.rbac_terms.specs.Text.{Text}
 use Rattle.rbac_paths.specs.BoundNames.{BindsNamed}
@@ -6,6 +6,10 @@ use Rattle.rbac_paths.specs.SharedWords.{AddsWhere}
 use Rattle.rbac_paths.proofs.BoundNames.{binds_named, binds_none}
 use Rattle.rbac_paths.proofs.WordsAdded.{adds_all, adds_none, adds_same}
 use Rattle.rbac_paths.proofs.bound_names.add_of_rule.Goals as goal
+
+pub returns-then-is_empty : goal.returns-then-is_empty
+returns-then-is_empty c =
+    adds_none (BindsNamed c.args.rule.now) (λ name b. (let none : c.args.rule.now.resource_names ≡ [] = c.is_empty.ensures.0 c.if-is_empty.true in absurd (let has = subst (λ (ws : List Text). Contains ws name) none b.1 in omega (arith, has.1)))) c.args.names.now.items
 
 pub returns-in_ok-extend_with_clones : goal.returns-in_ok-extend_with_clones
 returns-in_ok-extend_with_clones c =
