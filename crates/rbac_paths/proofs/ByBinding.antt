@@ -12,6 +12,7 @@ use Rattle.rbac_model.proofs.GrantNumbers.{any_at, grant_allows, some_grant}
 use Rattle.rbac_model.proofs.OwnWords.{any_from}
 use Rattle.rbac_model.specs.Policies.{BindingNames, GrantAllows, GrantView, IsOfBinding, IsPolicy, PolicyView}
 use Rattle.rbac_subjects.specs.Bound.{AreNamedPlaces}
+use Rattle.rbac_subjects.proofs.PrincipalLemmas.{no_mark}
 use Rattle.rbac_paths.specs.Access.{AccessView, AllowsAccess}
 use Rattle.rbac_paths.specs.Aims.{Serves}
 use Rattle.rbac_paths.specs.Allowed.{MarkAllowing}
@@ -23,12 +24,6 @@ pub record AreMarkedBelow (p : PolicyView) (P : ℕ → Type 0) (count : ℕ) (m
   pub each : (at : ℕ) → IsTrue (get_or marks at false) ↔ ((n : ℕ) × (n < count) × IsOfBinding p n at × P n)
 
 module _ (p : PolicyView) (ok : IsPolicy p) (P : ℕ → Type 0) where
-  no_mark : (count at : ℕ) → IsTrue (get_or (replicate count false) at false) → ⊥
-  no_mark count at is = elim (cases_lt at count) [
-    | inl low ↦ (let both : false ≡ true = sym (get_or-replicate count at false false low) ∙ is in cc)
-    | inr high ↦ (let both : false ≡ true = sym (get_or-eq_default (replicate count false) false (let len = length-replicate count false in omega (arith, high, len))) ∙ is in cc)
-  ]
-
   pub none_marked : (marks : List Bool) → marks ≡ replicate (length p.held.bindings) false → AreMarkedBelow p P 0 marks
   none_marked marks are = record {
     len = ap length are ∙ length-replicate (length p.held.bindings) false;

@@ -75,7 +75,8 @@ module _ (xs : List Keyed) (y : Keyed) (found : List Who) (are : AreListed xs fo
 abbrev pub AreMarked : List Keyed → List Bool → Type 0
 AreMarked xs marks = (place : ℕ) → IsTrue (get_or marks place false) ↔ HasEntry xs place
 
-no_mark : (count place : ℕ) → IsTrue (get_or (replicate count false) place false) → ⊥
+-- of so many bindings none is marked
+pub no_mark : (count place : ℕ) → IsTrue (get_or (replicate count false) place false) → ⊥
 no_mark count place is = elim (cases_lt place count) [
   | inl low ↦ (let both : false ≡ true = sym (get_or-replicate count place false false low) ∙ is in cc)
   | inr high ↦ (let both : false ≡ true = sym (get_or-eq_default (replicate count false) false (let len = length-replicate count false in omega (arith, high, len))) ∙ is in cc)

@@ -1,15 +1,15 @@
 //! The principals that the subjects of bindings stand for. Those of bindings that have grants are
 //! made from the entries, in order of keys, and each once; so to sort them takes one look at each.
 
-ghost use Rattle.std.specs.Prelude.{◌≡◌, ◌↔◌, ◌<◌, ℕ, All, Any, Contains, IfOk, IsTrue, OnOk};
+ghost use Rattle.std.specs.Prelude.{◌≡◌, ◌↔◌, ◌<◌, ℕ, All, Contains, IfOk, IsTrue, OnOk};
 ghost use Rattle.std.specs.Prelude.{false, length, slice_index_or};
-ghost use Rattle.rbac_terms.specs.Principals.{Who, who_key};
+ghost use Rattle.rbac_terms.specs.Principals.{Who};
 ghost use Rattle.rbac_model.specs.Policies.{HasSubject};
 ghost use Rattle.rbac_subjects.specs.Keyed.{AreKeyed, HasEntry, IsListed};
 
 use crate::subject_keys::Keyed;
 use rbac_model::Policy;
-use rbac_terms::{Principal, Word, put_principals};
+use rbac_terms::{Principal, put_principals};
 use std::alloc::{AllocError, Global};
 
 // The principals that the subjects of a policy's bindings stand for, with repeats.
@@ -38,9 +38,9 @@ fn listed_principals(alloc: Global, entries: &[Keyed]) -> Result<Vec<Principal>,
     ensures { IfOk result
         (λ found. (who : Who) → Contains found.items who ↔ IsListed entries.now who) }
 {
-    let mut found = Vec::new(alloc);
+    let mut found: Vec<Principal> = Vec::new(alloc);
     for entry in entries {
-        if ends_with_key(found.as_slice(), &entry.key) {
+        if matches!(found.last(), Some(last) if last.key() == &entry.key) {
             continue;
         }
         if let Some(principal) = Principal::from_key(alloc, &entry.key)? {
@@ -48,16 +48,6 @@ fn listed_principals(alloc: Global, entries: &[Keyed]) -> Result<Vec<Principal>,
         }
     }
     Ok(found)
-}
-
-// Whether the last of these principals has this key.
-fn ends_with_key(principals: &[Principal], key: &Word) -> bool
-    ensures { IsTrue result → Any (λ who. who_key who ≡ key.now) principals.now }
-{
-    match principals.last() {
-        Some(last) => last.key() == key,
-        None => false,
-    }
 }
 
 // For each of `count` bindings, whether it has an entry.
