@@ -1,5 +1,5 @@
 -- The paths and the ways over the users and groups that are named, each once.
-use Rattle.std.proofs.Common.{◌≡◌, ◌↔◌, ◌∙◌, ◌++◌, ◌⊎◌, ℕ, List, [], ◌∷◌, All, Contains, ap, ap₂, get_or, inl, inr, subst, sym, ◌<◌, length, arith}
+use Rattle.std.proofs.Common.{◌≡◌, ◌↔◌, ◌∙◌, ◌++◌, ℕ, List, [], ◌∷◌, All, Contains, ap, ap₂, get_or, inl, inr, subst, sym, ◌<◌, length, arith}
 use Rattle.std.specs.Cmp.Lexicographic.{slice_cmp}
 use Rattle.std.proofs.lemmas.List.{get_or_default}
 use Rattle.std.proofs.lemmas.List.Elements.{Contains-append_cases, Contains-append_left, Contains-append_right}
@@ -9,6 +9,8 @@ use Rattle.rbac_terms.specs.Principals.{Who, given_of, who_key}
 use Rattle.rbac_model.specs.Lists.{by_name, IsAscendingBy, IsOnceEach}
 use Rattle.rbac_model.specs.Policies.{HasSubject, Held, PolicyView}
 use Rattle.rbac_model.specs.Unions.{who_texts}
+use Rattle.rbac_lists.specs.Derived.{subject_principals}
+use Rattle.rbac_lists.proofs.SubjectPrincipals.{some_subject}
 use Rattle.rbac_document.specs.Names.{principal_name}
 use Rattle.rbac_paths.specs.Access.{AccessView}
 use Rattle.rbac_paths.specs.Paths.{ArePathsOf, PathView}
@@ -30,12 +32,15 @@ by_keys named each none once i j d lt l =
     ap₂ (λ (m : List Text) (n : List Text). slice_cmp text_cmp m n) (sym (alone i (omega (arith, lt, l)))) (sym (alone j l)) ∙ less
 
 -- the principals of bindings' subjects and the users of accounts are all that are named
-pub all_named : (h : Held) (principals stood users all : List Who) → ((who : Who) → Contains stood who ↔ HasSubject h who) → ((who : Who) → Contains principals who ↔ (HasSubject h who ⊎ Contains users who)) → all ≡ stood ++ users
+pub all_named : (h : Held) (principals stood users all : List Who) → ((who : Who) → Contains stood who ↔ HasSubject h who) → principals ≡ subject_principals h ++ users → all ≡ stood ++ users
     → (who : Who) → Contains all who ↔ Contains principals who
 all_named h principals stood users all exact rest is who = (
-  λ c. (rest who).1 (elim (Contains-append_cases stood users who (subst (λ (l : List Who). Contains l who) is c)) [ inl s ↦ inl ((exact who).0 s) | inr u ↦ inr u ]),
-  λ c. subst (λ (l : List Who). Contains l who) (sym is) (elim ((rest who).0 c) [
-    | inl s ↦ Contains-append_left stood users who ((exact who).1 s)
+  λ c. subst (λ (l : List Who). Contains l who) (sym rest) (elim (Contains-append_cases stood users who (subst (λ (l : List Who). Contains l who) is c)) [
+    | inl s ↦ Contains-append_left (subject_principals h) users who ((some_subject h who).1 ((exact who).0 s))
+    | inr u ↦ Contains-append_right (subject_principals h) users who u
+  ]),
+  λ c. subst (λ (l : List Who). Contains l who) (sym is) (elim (Contains-append_cases (subject_principals h) users who (subst (λ (l : List Who). Contains l who) rest c)) [
+    | inl s ↦ Contains-append_left stood users who ((exact who).1 ((some_subject h who).0 s))
     | inr u ↦ Contains-append_right stood users who u
   ]),
 )

@@ -10,7 +10,7 @@ use Rattle.rbac_terms.specs.declared.granting.Subject.{Subject}
 use Rattle.rbac_terms.specs.declared.granting.Subject.TheVariants.{User, Group, Account}
 use Rattle.rbac_model.specs.Policies.{Held}
 use Rattle.rbac_lists.specs.declared.given_lists.Account.{Account as Listed}
-use Rattle.rbac_lists.specs.Derived.{principals_of}
+use Rattle.rbac_lists.specs.Derived.{principals_of, subject_principals}
 
 abbrev HasNone : Who → Type 0
 HasNone who = given_of who ≡ []
@@ -42,6 +42,6 @@ of_bindings (b ∷ rest) =
 
 pub none_given : (h : Held) (accounts : List Listed) → All (λ who. given_of who ≡ []) (principals_of h accounts)
 none_given h accounts =
-    All-append HasNone (flat_map (λ b. filter_map (subject_principal b.namespace) b.subjects) h.bindings) (map (λ a. account_principal a.namespace a.name) accounts)
+    All-append HasNone (subject_principals h) (map (λ a. account_principal a.namespace a.name) accounts)
     (of_bindings h.bindings)
     (All-map HasNone (λ a. account_principal a.namespace a.name) accounts (λ k d l. refl))

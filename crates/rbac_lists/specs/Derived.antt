@@ -15,11 +15,15 @@ use Rattle.rbac_lists.specs.declared.given_lists.Account.{Account}
 
 -- ---- principals
 
+-- the principals that the subjects of bindings stand for, binding by binding
+abbrev pub subject_principals : Held → List Who
+subject_principals h =
+    flat_map (λ b. filter_map (subject_principal b.namespace) b.subjects) h.bindings
+
 -- the principals of all subjects, and the users of all service accounts
 abbrev pub principals_of : Held → List Account → List Who
 principals_of h accounts =
-    flat_map (λ b. filter_map (subject_principal b.namespace) b.subjects) h.bindings
-    ++ map (λ a. account_principal a.namespace a.name) accounts
+    subject_principals h ++ map (λ a. account_principal a.namespace a.name) accounts
 
 -- ---- namespaces
 

@@ -1,4 +1,3 @@
-pub mod AccountUsers
 pub mod Beside
 pub mod Chains
 pub mod Elements

@@ -1,7 +1,7 @@
 //! Reads inputs into what they give and the policy that follows from it.
 
-ghost use Rattle.std.specs.Prelude.{◌≡◌, ◌≢◌, ◌↔◌, ◌⊎◌, [], All, Contains, OnOk, IfOk, IfErr};
-ghost use Rattle.std.specs.Prelude.{None, Some};
+ghost use Rattle.std.specs.Prelude.{◌≡◌, ◌≢◌, ◌++◌, [], All, OnOk, IfOk, IfErr, None, Some};
+ghost use Rattle.rbac_lists.specs.Derived.{subject_principals};
 ghost use Rattle.rbac_manifest.specs.declared.fault.Cause.TheVariants.{NoMemory};
 ghost use Rattle.rbac_manifest.specs.Load.{file_refusal, contents_of_file};
 ghost use Rattle.rbac_manifest.specs.Load.{document_fault, all_contents, too_many, IsLoaded};
@@ -12,8 +12,7 @@ ghost use Rattle.rbac_manifest.specs.Names.{names_given};
 ghost use Rattle.rbac_manifest.specs.Reads.{Yields};
 ghost use Rattle.rbac_manifest.specs.Replaced.{AreReplaced, replaced_name};
 ghost use Rattle.rbac_model.specs.Lists.{IsAscendingBy};
-ghost use Rattle.rbac_model.specs.Policies.{HasSubject};
-ghost use Rattle.rbac_terms.specs.Principals.{Who, given_of};
+ghost use Rattle.rbac_terms.specs.Principals.{given_of};
 
 use crate::content::Content;
 use crate::contents::Contents;
@@ -93,8 +92,8 @@ impl Export {
     /// document lists (own). With the principals that subjects of bindings stand for they are all
     /// that the export names. Each call derives them anew. Fails only if it runs out of memory.
     pub fn account_users(&self, alloc: Global) -> Result<Principals, AllocError>
-        ensures users { IfOk result (λ users. (who : Who) → Contains self.now.principals who
-            ↔ (HasSubject self.now.policy.held who ⊎ Contains users who)) }
+        ensures users { IfOk result (λ users. self.now.principals
+            ≡ subject_principals self.now.policy.held ++ users) }
         ensures given { IfOk result (All (λ who. given_of who ≡ [])) }
     {
         users_of(alloc, self.accounts.as_slice())
