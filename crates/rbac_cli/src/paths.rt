@@ -38,7 +38,7 @@ pub(crate) fn print_paths<W: Write + Drop>(
 {
     let policy = export.policy();
     let index = SubjectIndex::build(alloc, policy)?;
-    let principals = principals_of(alloc, export, &index)?;
+    let principals = named_principals(alloc, export, &index)?;
     let found = paths(
         alloc,
         policy,
@@ -51,7 +51,7 @@ pub(crate) fn print_paths<W: Write + Drop>(
 }
 
 /// The users and groups that bindings and ServiceAccount objects name, each once, in order of keys.
-pub(crate) fn principals_of(
+pub(crate) fn named_principals(
     alloc: Global,
     export: &Export,
     index: &SubjectIndex<'_>,

@@ -11,7 +11,7 @@ use crate::lines::{HasLine, print_lines};
 use crate::meaning::meant_by;
 use crate::outcome::Status;
 use crate::output::Output;
-use crate::paths::principals_of;
+use crate::paths::named_principals;
 use crate::stop::Stop;
 use rbac_manifest::Export;
 use rbac_paths::{Access, Step, Way, put_way, ways_to};
@@ -42,7 +42,7 @@ pub(crate) fn print_ways<W: Write + Drop>(
     };
     let policy = export.policy();
     let index = SubjectIndex::build(alloc, policy)?;
-    let principals = principals_of(alloc, export, &index)?;
+    let principals = named_principals(alloc, export, &index)?;
     let found = ways_to(alloc, policy, &index, principals.as_slice(), steps, access)?;
     print_lines(alloc, &mut found.as_slice().iter(), Status::Zero, output)
 }

@@ -4,7 +4,7 @@ use Rattle.std.proofs.lemmas.Result.{IfOk-weaker}
 use Rattle.rbac_terms.specs.Principals.{Who, given_of}
 use Rattle.rbac_model.specs.Policies.{HasSubject, PolicyView}
 use Rattle.rbac_cli.proofs.PathsNamed.{all_named, by_keys}
-use Rattle.rbac_cli.proofs.paths.principals_of.Goals as goal
+use Rattle.rbac_cli.proofs.paths.named_principals.Goals as goal
 
 pub returns-clause-ordered : goal.returns-clause-ordered
 returns-clause-ordered c =
