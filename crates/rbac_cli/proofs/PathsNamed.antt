@@ -10,7 +10,7 @@ use Rattle.rbac_model.specs.Lists.{by_name, IsAscendingBy, IsOnceEach}
 use Rattle.rbac_model.specs.Policies.{HasSubject, Held, PolicyView}
 use Rattle.rbac_model.specs.Unions.{who_texts}
 use Rattle.rbac_lists.specs.Derived.{subject_principals}
-use Rattle.rbac_lists.proofs.SubjectPrincipals.{some_subject}
+use Rattle.rbac_lists.proofs.SomeSubject.{some_subject}
 use Rattle.rbac_document.specs.Names.{principal_name}
 use Rattle.rbac_paths.specs.Access.{AccessView}
 use Rattle.rbac_paths.specs.Paths.{ArePathsOf, PathView}

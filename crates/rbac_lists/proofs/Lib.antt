@@ -1,4 +1,4 @@
 pub mod LastGiven
 pub mod NoGroups
-pub mod SubjectPrincipals
+pub mod SomeSubject
 pub mod Walks
