@@ -34,12 +34,12 @@ fuzz:
 calls:
 	python3 tests/calls.py
 
-# Each wrong body that the gate leaves out has to be refused; `make wrong-bodies CRATE=NAME` tries those of a crate, or of several, and
-# `make wrong-bodies CHANGED=COMMIT` those that a change since that commit can touch.
+# Each wrong body, tried over the libraries that rt ci keeps on this machine; `make wrong-bodies CRATE=NAME` tries those of a crate, or of
+# several, and `make wrong-bodies CHANGED=COMMIT` those that a change since that commit can touch. The gate tries one of each public function.
 wrong-bodies:
 	python3 tools/wrong_bodies.py $(if $(CHANGED),--changed "$(CHANGED)") $(CRATE)
 
-# The program, proved and compiled: from nothing 20 to 40 minutes of four cores; what was proved before on this machine and is unchanged is kept.
+# The program, proved and compiled: from nothing 50 to 80 minutes of four cores; what was proved before on this machine and is unchanged is kept.
 build:
 	@python3 tools/build.py
 

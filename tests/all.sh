@@ -1,6 +1,6 @@
 #!/usr/bin/env bash
-# The whole gate: each edit still fits, every proof, must-fail edit and test by `rt ci`, which wrong bodies a change wants
-# tried, what only a process can show, the kubectl plugin, completions and man page, the page in a browser, lines as tables
+# The whole gate: each edit still fits, every proof, must-fail edit and test by `rt ci`, a wrong body of each public function, over
+# the libraries that `rt ci` has built, how wrong bodies are chosen and tried, what only a process can show, the kubectl plugin, completions and man page, the page in a browser, lines as tables
 # and as JSON, what make dist packs, random matrices, universes, rules, changes, powers and paths, bad documents, refused
 # memory, reads and writes, and each public call by itself. The last line counts all of it, as `N passed, M failed`. Above it
 # stands what the gate took; if a test skipped something that this machine lacks, a line between the two says what.
@@ -45,6 +45,9 @@ counted python3 tests/edits.py
 counted rt ci
 measure
 proving=$spent
+counted python3 tools/wrong_bodies.py --chosen
+measure
+refusing=$spent
 counted python3 tests/chosen_edits.py
 counted python3 tests/program.py
 counted python3 tests/plugin.py
@@ -62,7 +65,8 @@ counted python3 tests/fuzz.py 1 2000
 counted python3 tests/calls.py --once
 
 measure
-echo "took $spent processor minutes, $proving of them up to the end of rt ci, in $((SECONDS / 60)) minutes on $processors processors"
+echo "took $spent processor minutes in $((SECONDS / 60)) minutes on $processors processors; $proving were up to the end of rt ci," \
+    "and $refusing up to the end of the wrong bodies"
 [ -z "$skipped" ] || echo "skipped: ${skipped#; }"
 echo "$passed passed, $failed failed"
 [ "$failed" -eq 0 ]

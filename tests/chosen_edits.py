@@ -1,59 +1,75 @@
-"""Which wrong bodies `make wrong-bodies CHANGED=COMMIT` tries, and which of them together, in small repositories with a stand-in for rt.
+"""Which wrong bodies `make wrong-bodies` and the gate try, which of them together, and what it takes for one to be refused: in small
+repositories, with stand-ins for rt and for the prover. Needs no built program.
 
 The last line is `N passed, M failed`.
 """
 
 import contextlib
 import os
+import re
 import shutil
 import subprocess
 import sys
 import tempfile
 
-from common import TOP, checked, tested
+from common import TOP, checked, counted
 
-# `rt ci` refuses each edit that lies in must-fail/ of a crate. `rt check` refuses each line of a crate that has the word WRONG, finds an answer
-# gone for each line that has GONE, and can't read a crate that has the word SPOILED.
-STAND_IN = '''#!/usr/bin/env python3
-import glob
-import sys
-if sys.argv[1] == 'ci':
-    for edit in sorted(glob.glob('crates/*/must-fail/*.edit')):
-        print('rt: must-fail %s/%s: refused, as it must be' % (edit.split('/')[1], edit.split('/')[3]))
+# `rt ci` refuses each edit that lies in must-fail/ of a crate, and leaves libraries that tell the functions of each.
+RT = '''#!/usr/bin/env python3
+import glob, json, os, re, sys
+if sys.argv[1] == 'doc':
+    print(os.path.join(os.path.dirname(os.path.abspath(__file__)), 'START-HERE.md'))
     sys.exit()
-lines = [(file, number, line) for file in sorted(glob.glob('src/*.rt')) for number, line in enumerate(open(file), 1)]
-if any('SPOILED' in line for _, _, line in lines):
+for crate in sorted(os.listdir('crates')):
+    names = []
+    for file in sorted(glob.glob('crates/%s/src/*.rt' % crate)):
+        module = os.path.basename(file)[:-3]
+        names += ['::'.join([crate, *[module] * (module != 'lib'), name]) for name in re.findall(r'fn (\\w+)', open(file).read())]
+    at = 'crates/%s/out/rlib/%s.rlib/toolchain' % (crate, crate)
+    os.makedirs(at)
+    json.dump([[name, {}] for name in names], open(at + '/mir.json', 'w'))
+for edit in sorted(glob.glob('crates/*/must-fail/*.edit')):
+    print('rt: must-fail %s/%s: refused, as it must be' % (edit.split('/')[1], edit.split('/')[3]))
+'''
+# The prover finds a goal open in each function that has the word WRONG, finds an answer stale for the word STALE and a goal gone for GONE, can't
+# read a crate with the word SPOILED, and looks only at the functions that it is asked about; the proofs of all others have to be open.
+PROVER = '''#!/usr/bin/env python3
+import glob, os, re, sys
+asked = {word for at, word in enumerate(sys.argv) if sys.argv[at - 1] == '--only'}
+crate = sys.argv[sys.argv.index('--crate-name') + 1]
+texts = {file: open(file).read() for file in sorted(glob.glob('src/*.rt'))}
+if any('SPOILED' in text for text in texts.values()):
     sys.exit('error[unknown-name]: SPOILED')
-for file, number, line in lines:
-    if 'WRONG' in line:
-        print('note: %s:%d:5: it is not proved that what the function ensures holds when it returns' % (file, number))
-    if 'GONE' in line:
-        print('./proofs/a/one/Answers.antt:3:4: error: `goal`: module `Goals` has no `returns`')
-print('logic=%s' % ('not-proved' if any('WRONG' in line for _, _, line in lines) else 'proved'))
+for file, text in texts.items():
+    module = os.path.basename(file)[:-3]
+    for name, body in re.findall(r'fn (\\w+)(.*?\\n\\})', text, re.S):
+        path = '::'.join([crate, *[module] * (module != 'lib'), name])
+        proofs = '/'.join(['proofs', *path.split('::')[1:]])
+        if path not in asked:
+            assert '%s_spec = ?' % name in open(proofs + '/Proof.antt').read()
+            assert not os.path.exists(proofs + '/Answers.antt')
+            continue
+        for word, fault in (('STALE', '`returns`: as printed, the two types differ only where one has `1`'),
+                            ('GONE', '`goal`: module `Goals` has no `returns`'), ('UNFOUND', '`returns`: `search`: no proof of `1`')):
+            if word in body:
+                print('./%s/Answers.antt:3:4: error: %s' % (proofs, fault))
+        if 'WRONG' in body:
+            print('note: %s:1:1: it is not proved that what the function ensures holds when it returns (`returns`)' % file)
+        print('fn %s: %s' % (path, 'not proved' if re.search('WRONG|STALE|GONE|UNFOUND', body) else 'no holes'))
+print('only=%d holes=0' % len(asked))
+'''
+BODY = '''fn %s() {
+    %s
+}
 '''
 FILES = {
     '.gitignore': 'out/\n', 'crates.txt': 'low:\nhigh: low\n', 'HANDLES': 'Handles allowed: none.\n',
-    'crates/low/src/lib.rt': 'mod a;\nmod b;\n', 'crates/low/src/a.rt': 'a\n', 'crates/low/src/b.rt': 'b\n', 'crates/low/specs/S.antt': 's\n',
-    'crates/low/wrong-bodies/of_a.edit': 'file: src/a.rt\nold: a\nnew: x\n',
-    'crates/low/wrong-bodies/of_both.edit': 'file: src/a.rt\nold: a\nnew: x\nfile: src/b.rt\nold: b\nnew: x\n',
-    'crates/high/src/lib.rt': 'h\n', 'crates/high/specs/S.antt': 's\n',
-    'crates/high/wrong-bodies/of_high.edit': 'file: src/lib.rt\nold: h\nnew: x\n'}
-
-
-BODIES = '''const LEAST: usize = 1;
-
-fn one(
-    most: usize,
-) -> usize
-    ensures { result ≡ most }
-{
-    first
-}
-
-pub(crate) fn two() -> usize {
-    second
-}
-'''
+    'crates/low/src/lib.rt': 'mod a;\nmod b;\n', 'crates/low/src/a.rt': BODY % ('one', 'first'), 'crates/low/src/b.rt': BODY % ('two', 'second'),
+    'crates/low/specs/S.antt': 's\n', 'crates/low/proofs/a/one/Answers.antt': 'answer\n', 'crates/low/proofs/b/two/Answers.antt': 'answer\n',
+    'crates/low/wrong-bodies/of_a.edit': 'file: src/a.rt\nold: first\nnew: WRONG\n',
+    'crates/low/wrong-bodies/of_both.edit': 'file: src/a.rt\nold: first\nnew: WRONG\nfile: src/b.rt\nold: second\nnew: x\n',
+    'crates/high/src/lib.rt': BODY % ('over', 'third'), 'crates/high/specs/S.antt': 's\n',
+    'crates/high/must-fail/of_high.edit': 'file: src/lib.rt\nold: third\nnew: UNFOUND\n'}
 
 
 def written(folder, files):
@@ -74,74 +90,89 @@ def edit_of(old, new, file='src/a.rt'):
 
 @contextlib.contextmanager
 def repository(files):
-    """The folder of a repository that has these files, the tools and the stand-in for rt."""
+    """The folder of a repository that has these files, the tools and the stand-ins."""
     with tempfile.TemporaryDirectory() as folder:
-        written(folder, {**files, 'out/rt': STAND_IN})
-        os.chmod(os.path.join(folder, 'out', 'rt'), 0o755)
+        written(folder, {**files, 'out/rt': RT, 'out/bin/rattle': PROVER})
+        for name in ('out/rt', 'out/bin/rattle'):
+            os.chmod(os.path.join(folder, name), 0o755)
         os.mkdir(os.path.join(folder, 'tools'))
-        for name in ('wrong_bodies.py', 'copies.py', 'together.py'):
+        for name in ('wrong_bodies.py', 'copies.py', 'together.py', 'edit.py'):
             shutil.copy(os.path.join(TOP, 'tools', name), os.path.join(folder, 'tools'))
         shutil.copy(os.path.join(TOP, 'Makefile'), folder)
         yield folder
 
 
 def tried(folder, *asked):
-    """What make says, and the edits that `rt ci` tried."""
+    """What is said, and what became of each edit."""
     environ = dict(os.environ, PATH='%s:%s' % (os.path.join(folder, 'out'), os.environ['PATH']))
-    ended = subprocess.run(['make', '-s', 'wrong-bodies', *asked], cwd=folder, env=environ, stdout=subprocess.PIPE, stderr=subprocess.STDOUT,
-                           text=True, timeout=60, check=False)
-    return ended.stdout, sorted(line.split()[1][:-1] for line in ended.stdout.splitlines() if 'refused' in line and line.startswith('rt: '))
+    ended = subprocess.run(asked or ['make', '-s', 'wrong-bodies'], cwd=folder, env=environ, stdout=subprocess.PIPE,
+                           stderr=subprocess.STDOUT, text=True, timeout=60, check=False)
+    return ended.stdout, dict(re.findall(r'^(\S+)\.edit: (\w+)', ended.stdout, re.M))
+
+
+def made(*asked):
+    return ['make', '-s', 'wrong-bodies', *asked]
 
 
 def chosen():
     """An edit is tried if it has changed itself, or a file that it edits, or a definition of its crate; also in files that git doesn't know."""
-    low, high = ['low/of_a.edit', 'low/of_both.edit'], ['high/of_high.edit']
+    low, high = ['low/of_a', 'low/of_both'], ['high/of_high']
     with repository(FILES) as folder:
         for asked in (['init', '-q'], ['add', '-A'], ['commit', '-qm', 'base']):
             git(folder, *asked)
-        checked('all are tried without CHANGED', tried(folder)[1] == sorted(high + low), repr(tried(folder)))
-        said, found = tried(folder, 'CHANGED=HEAD')
+        said, found = tried(folder)
+        checked('all are tried without CHANGED', found == dict.fromkeys(low + high, 'refused'), said)
+        said, found = tried(folder, *made('CHANGED=HEAD'))
         checked('nothing has changed', not found and '0 are tried; 3 are left out' in said and 'there are none' in said, said)
         for what, files, wanted in (
-                ('a file that one edits', {'crates/low/src/b.rt': 'b2\n'}, ['low/of_both.edit']),
-                ('a file that two edit', {'crates/low/src/a.rt': 'a2\n'}, low),
+                ('a file that one edits', {'crates/low/src/b.rt': BODY % ('two', 'second + 1')}, ['low/of_both']),
+                ('a file that two edit', {'crates/low/src/a.rt': BODY % ('one', 'first + 1')}, low),
                 ('a file that none edits', {'crates/low/src/lib.rt': 'mod a;\n'}, []),
                 ('a definition', {'crates/high/specs/S.antt': 's2\n'}, high),
                 ('a definition that is new', {'crates/low/specs/T.antt': 't\n'}, low),
-                ('an edit', {'crates/low/wrong-bodies/of_a.edit': FILES['crates/low/wrong-bodies/of_a.edit'] + '\n'}, ['low/of_a.edit']),
-                ('an edit that is new', {'crates/high/wrong-bodies/new.edit': 'file: src/lib.rt\nold: h\nnew: y\n'}, ['high/new.edit']),
-                ('files of both crates', {'crates/low/src/b.rt': 'b2\n', 'crates/high/src/lib.rt': 'h2\n'}, ['high/of_high.edit', 'low/of_both.edit'])):
+                ('an edit', {'crates/low/wrong-bodies/of_a.edit': FILES['crates/low/wrong-bodies/of_a.edit'] + '\n'}, ['low/of_a']),
+                ('an edit that is new', {'crates/high/wrong-bodies/new.edit': edit_of('third', 'WRONG', 'src/lib.rt')}, ['high/new']),
+                ('files of both crates', {'crates/low/src/b.rt': BODY % ('two', 'second + 1'), 'crates/high/src/lib.rt': BODY % ('over', 'third + 1')},
+                 ['high/of_high', 'low/of_both'])):
             written(folder, files)
-            said, found = tried(folder, 'CHANGED=HEAD')
-            checked('changed: ' + what, found == wanted and (not wanted or '%d passed, 0 failed' % len(wanted) in said), said)
+            said, found = tried(folder, *made('CHANGED=HEAD'))
+            checked('changed: ' + what, sorted(found) == wanted and (not wanted or '%d passed, 0 failed' % len(wanted) in said), said)
             git(folder, 'stash', '-uq')
-        written(folder, {'crates/low/src/a.rt': 'a2\n', 'crates/high/src/lib.rt': 'h2\n'})
+        written(folder, {'crates/low/src/a.rt': BODY % ('one', 'first + 1'), 'crates/high/src/lib.rt': BODY % ('over', 'third + 1')})
         git(folder, 'commit', '-qam', 'later')
-        checked('since an earlier commit', tried(folder, 'CHANGED=HEAD~1')[1] == sorted(high + low), repr(tried(folder, 'CHANGED=HEAD~1')))
-        checked('of one crate', tried(folder, 'CHANGED=HEAD~1', 'CRATE=low')[1] == low, repr(tried(folder, 'CHANGED=HEAD~1', 'CRATE=low')))
-        said, found = tried(folder, 'CHANGED=nothing')
+        checked('since an earlier commit', sorted(tried(folder, *made('CHANGED=HEAD~1'))[1]) == sorted(high + low))
+        checked('of one crate', sorted(tried(folder, *made('CHANGED=HEAD~1', 'CRATE=low'))[1]) == low)
+        said, found = tried(folder, *made('CHANGED=nothing'))
         checked('a commit that is not there', not found and 'there is no commit nothing' in said, said)
 
 
-def together():
-    """Edits in the bodies of different functions are refused by one check; the others, and those that it doesn't refuse, are tried by themselves."""
-    edits = {'of_one': edit_of('first', 'WRONG'), 'of_two': edit_of('second', 'WRONG'), 'again_of_one': edit_of('first', 'first WRONG'),
-             'of_both': edit_of('first', 'first + WRONG') + edit_of('second', 'second + 1'), 'spoiled': edit_of('second', 'SPOILED'),
-             'as_good': edit_of('second', 'second + 0'), 'gone': edit_of('first', 'GONE'), 'of_a_const': edit_of('= 1;', '= WRONG;'),
-             'of_a_contract': edit_of('result ≡ most', 'WRONG'), 'of_a_parameter': edit_of('most: usize', 'WRONG: usize')}
-    alone = ['as_good', 'gone', 'of_a_const', 'of_a_contract', 'of_a_parameter', 'spoiled']
-    files = {'crates.txt': 'low:\n', 'HANDLES': 'Handles allowed: none.\n', 'crates/low/src/a.rt': BODIES,
-             **{'crates/low/wrong-bodies/%s.edit' % name: text for name, text in edits.items()}}
+# What becomes of each edit, and a body with more than one line that it can be made in.
+KINDS = {
+    'goal': ('WRONG', 'refused'), 'answer_that_searches': ('UNFOUND', 'refused'), 'goal_beside_a_stale_answer': ('WRONG STALE', 'refused'),
+    'stale_answer': ('STALE', 'undecided'), 'goal_without_its_answer': ('WRONG GONE', 'undecided'), 'answer_whose_goal_is_gone': ('GONE', 'undecided'),
+    'as_good': ('first + 0', 'NOT'), 'spoiled': ('SPOILED', 'not')}
+
+
+def kinds():
+    """An edit is refused by a goal that isn't proved, and undecided where only a stored answer no longer fits; the gate takes no undecided one."""
+    edits = {name: edit_of('first', new) for name, (new, _) in KINDS.items()}
+    edits.update(of_a_const=edit_of('= 1;', '= 2;'), of_a_contract=edit_of('result', 'most'))
+    source = 'const LEAST: usize = 1;\n\n' + BODY % ('one', 'first') + '\nfn three()\n    ensures { result }\n{\n    third\n}\n'
+    files = {**FILES, 'crates/low/src/a.rt': source, 'crates/high/must-fail/of_high.edit': edit_of('third', 'STALE', 'src/lib.rt')}
+    files.update({'crates/low/wrong-bodies/%s.edit' % name: text for name, text in edits.items()})
     with repository(files) as folder:
-        said, by_themselves = tried(folder)
-        refused = sorted(line.split('.edit: refused')[0].split('/')[1] for line in said.splitlines() if line.startswith('low/'))
-        checked('refused together', refused == sorted(set(edits) - set(alone)), said)
-        checked('tried by themselves', by_themselves == ['low/%s.edit' % name for name in alone], said)
-        checked('all are counted', '%d passed, 0 failed' % len(edits) in said, said)
-        written(folder, {'crates/low/src/a.rt': BODIES.replace('first', 'first // WRONG')})
-        said, by_themselves = tried(folder)
-        checked('none together where the crate is not proved', len(by_themselves) == len(edits), said)
+        said, found = tried(folder)
+        wanted = {'low/' + name: kind for name, (_, kind) in KINDS.items()}
+        checked('each kind', all(found.get(name) == kind for name, kind in wanted.items()), said)
+        checked('what is in no body is tried by itself', found.get('low/of_a_const') == found.get('low/of_a_contract') == 'refused', said)
+        checked('undecided ones are counted by crate, but fail in must-fail/', 'undecided: low 3\n' in said and '7 passed, 3 failed' in said and
+                'FAIL high/of_high.edit: undecided' in said, said)
+        for name in ('goal', 'stale_answer'):
+            written(folder, {'crates/low/wrong-bodies/%s.edit' % name: '# tried by the gate\n' + edits[name]})
+        said, found = tried(folder, sys.executable, 'tools/wrong_bodies.py', '--chosen')
+        checked('the gate tries those that are marked', found == {'low/goal': 'refused', 'low/stale_answer': 'undecided'}, said)
+        checked('the gate takes none that is undecided', 'FAIL low/stale_answer.edit' in said and '1 passed, 1 failed' in said, said)
 
 
 if __name__ == '__main__':
-    sys.exit(tested(chosen, together))
+    sys.exit(counted(chosen, kinds))

@@ -53,10 +53,14 @@ def skipped(tool, what):
 
 
 def tested(*parts):
-    """Runs each part over the built program, says what was skipped, and prints the last line; the
-    status to end with."""
+    """Runs each part over the built program, as `counted` does."""
     checked('the program is built', os.path.isfile(PROGRAM), 'no file %s' % os.path.relpath(PROGRAM, TOP))
-    for part in parts if all(results) else ():
+    return counted(*parts if all(results) else ())
+
+
+def counted(*parts):
+    """Runs each part, says what was skipped, and prints the last line; the status to end with."""
+    for part in parts:
         part()
     if skips:
         print('skipped: ' + '; '.join('no %s: %s' % (tool, ', '.join(whats))

@@ -1,7 +1,9 @@
-"""Every wrong body still fits the text that it edits, in must-fail/ and in wrong-bodies/ of each crate.
+"""Every wrong body still fits the text that it edits, in must-fail/ and in wrong-bodies/ of each crate, and the gate tries one of
+each public function.
 
 An edit is a file of lines `file: PATH`, `old: TEXT` and `new: TEXT`. Each old text stands in its file exactly once,
-after the pairs before it. Proves nothing: `rt ci` tries the edits of must-fail/, and `make wrong-bodies` the others.
+after the pairs before it. Proves nothing: `rt ci` tries the edits of must-fail/, of which there are at most 40, since each is a check by
+itself; `tools/wrong_bodies.py --chosen` tries those of wrong-bodies/ with the line `# tried by the gate`, and `make wrong-bodies` all.
 The last line is `N passed, M failed`.
 """
 
@@ -11,8 +13,11 @@ import sys
 
 from common import TOP
 
-TIERS = ('must-fail', 'wrong-bodies')
+sys.path.insert(0, os.path.join(TOP, 'tools'))
+from edit import TIERS, edits_of, public_functions  # noqa: E402
+
 PARTS = ('src/', 'specs/', 'proofs/')
+MOST_ALONE = 40
 
 
 def fault_of(path):
@@ -89,16 +94,36 @@ def edits():
                 yield os.path.join(folder, name)
 
 
+def faults():
+    """Each edit, each public function, and the count of must-fail/, with what is wrong with it, or nothing."""
+    paths = [*edits()]
+    for path in paths:
+        yield os.path.relpath(path, TOP), fault_of(path)
+    alone = sum(os.path.basename(os.path.dirname(path)) == TIERS[0] for path in paths)
+    yield 'must-fail/', alone > MOST_ALONE and 'it has %d edits in all, and at most %d are wanted' % (alone, MOST_ALONE)
+    for name in sorted(os.listdir(os.path.join(TOP, 'crates'))):
+        crate = os.path.join(TOP, 'crates', name)
+        tried = functions_tried(crate)
+        for function in public_functions(crate):
+            yield '%s::%s' % (name, function), function not in tried and 'the gate tries no wrong body of it'
+
+
+def functions_tried(crate):
+    """The functions of a crate of which every gate tries a wrong body."""
+    texts = {}
+    for name in os.listdir(os.path.join(crate, 'src')):
+        with open(os.path.join(crate, 'src', name), encoding='utf-8') as file:
+            texts['src/' + name] = file.read()
+    tried = [edit for edit in edits_of(crate) if edit.is_tried_by_the_gate()]
+    return {function for edit in tried for function in edit.functions_in(texts)}
+
+
 def main():
     passed = failed = 0
-    for path in edits():
-        fault = fault_of(path)
+    for what, fault in faults():
         if fault:
-            print('FAIL %s: %s' % (os.path.relpath(path, TOP), fault))
+            print('FAIL %s: %s' % (what, fault))
         passed, failed = passed + (not fault), failed + bool(fault)
-    if not passed:
-        print('FAIL there is no edit that fits')
-        failed += 1
     print('%d passed, %d failed' % (passed, failed))
     return 1 if failed else 0
 

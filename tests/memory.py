@@ -1,7 +1,8 @@
 """What the built program does where memory, a read or a write is refused.
 
 tests/refuse.c, preloaded, makes the Nth call of a kind fail: only that one, or every one from there on. A sweep counts N
-upwards until a run meets no refusal. Out of memory, a run has either its whole answer, or a prefix of its text, status 2
+upwards until a run meets no refusal. Of the sweeps that refuse memory over one input, the first begins with N = 1, and the others where the
+input is loaded. Out of memory, a run has either its whole answer, or a prefix of its text, status 2
 and one line that says so; a failed read is I1, and after a failed write the line says how many bytes went out. Each sweep
 says how many refusals it met, and fails if it met none. Then come streams that fail by themselves: closed, full, cut off
 or without end. The last line is `N passed, M failed`.
@@ -29,6 +30,7 @@ NO_MEMORY = b'rbacaudit: out of memory\n'
 READ_FAULTS = [b'rbacaudit: file %d: I1 read fault\n' % place for place in (1, 2, 3)]
 FULL = 65_536
 NEVER_LAST = 10 ** 9
+FEW = 20
 
 
 # ---- what is asked, and what it answers
@@ -393,12 +395,12 @@ def refused(shim, log, given, case, kind, first, last, error, piece=0):
     return os.fstat(log).st_size - before, got
 
 
-def sweep(shim, case, kind, is_right, error, from_there_on=False, piece=0):
+def sweep(shim, case, kind, is_right, error, from_there_on=False, piece=0, begin=1):
     """Refuses call after call until a run meets no refusal; that run has to give all."""
     met = Met()
     with tempfile.TemporaryFile() as log, tempfile.TemporaryFile() as given:
         given.write(case.given)
-        for first in itertools.count(1, case.step):
+        for first in itertools.count(begin, case.step):
             last = NEVER_LAST if from_there_on else first
             count, got = refused(shim, log.fileno(), given, case, kind, first, last, error, piece)
             met.add(case.whole, first, count, got, is_right(case.whole, got) if count else got == case.whole)
@@ -556,15 +558,36 @@ def parser_texts():
         yield case
 
 
+def growths(shim, given):
+    """How often memory grows while a short question is answered over an input."""
+    with tempfile.TemporaryFile() as log:
+        environment = dict(LD_PRELOAD=shim, REFUSE='memory', REFUSE_FIRST=str(NEVER_LAST), REFUSE_LOG=str(log.fileno()), REFUSE_COUNT='')
+        subprocess.run([PROGRAM, 'can-i', '--as', 'a', 'b', 'c'], input=given, stdout=subprocess.PIPE, stderr=subprocess.PIPE, env=environment,
+                       pass_fds=[log.fileno()], timeout=30, check=False)
+        log.seek(0)
+        return int(log.read())
+
+
+def beginnings(shim, cases):
+    """Where the sweep over each case begins: the first over an input at the first growth of memory, and the others at the last few of loading.
+    (The words that ask take some too, so that loading is never past at this number. An input that is refused is swept whole.)"""
+    least, swept = growths(shim, export()), {}
+    for case in cases:
+        is_again = case.given in swept and case.whole[0] < 2
+        yield max(1, swept[case.given] - FEW) if is_again else 1
+        swept.setdefault(case.given, growths(shim, case.given) - least if case.given else 1)
+
+
 def refused_memory(shim, room):
     """Every growth of memory in turn, and every growth from each on; two sweeps at a time."""
     cases = [(case, False) for case in (*answers(), *examples(), *changes(room), *matrices(), *parser_texts(), *faults(room))]
     cases += [(case, True) for case in (long_matrix(), long_bindings(), long_holders(), long_rules(), long_paths(), long_ways(), long_changes(room))]
     cases += [(long_lists(), False)]
-    asked = [(case, must_cut, mode) for case, must_cut in cases for mode in (False, True)]
+    begins = [*beginnings(shim, [case for case, _ in cases])]
+    asked = [(case, must_cut, begin, mode) for (case, must_cut), begin in zip(cases, begins) for mode in (False, True)]
     with concurrent.futures.ThreadPoolExecutor(2) as pool:
-        mets = pool.map(lambda it: sweep(shim, it[0], 'memory', is_short_of_memory, errno.ENOMEM, it[2]), asked)
-        for (case, must_cut, mode), met in zip(asked, mets):
+        mets = pool.map(lambda it: sweep(shim, it[0], 'memory', is_short_of_memory, errno.ENOMEM, it[3], begin=it[2]), asked)
+        for (case, must_cut, _, mode), met in zip(asked, mets):
             step = ' in steps of %d' % case.step if case.step > 1 else ''
             tell_sweep('no memory, %s%s, %s' % (which(mode), step, case.name), met, must_cut)
 

@@ -5,8 +5,8 @@
    file that is open as REFUSE_LOG, so that the test knows how many were met. Reads, and writes to standard output, move at most
    REFUSE_PIECE bytes. What happens before the constructor, which is libc's own, is let be.
 
-   With REFUSE=endless each read gives one byte, a space, and there is no end; when the program ends, the file that is open as
-   REFUSE_LOG gets how many reads there were.
+   With REFUSE=endless each read gives one byte, a space, and there is no end. When the program then ends, or any with REFUSE_COUNT, the
+   file that is open as REFUSE_LOG gets how many calls were numbered.
 
    With REFUSE_BETWEEN=K only the calls between two marks are numbered: the Kth write to standard error that begins with `(`, and
    the next one that begins with `)`. */
@@ -28,7 +28,7 @@ extern void *__libc_memalign(size_t alignment, size_t size);
 static const char *refused_kind = "";
 static unsigned long long first, last, made, most_bytes;
 static unsigned long long wanted_mark, marks;
-static int error, met, is_between, is_endless;
+static int error, met, is_between, is_endless, is_counted;
 
 static unsigned long long number(const char *name)
 {
@@ -47,13 +47,14 @@ __attribute__((constructor)) static void begin(void)
     if (getenv("REFUSE"))
         refused_kind = getenv("REFUSE");
     is_endless = strcmp(refused_kind, "endless") == 0;
+    is_counted = is_endless || getenv("REFUSE_COUNT");
 }
 
 __attribute__((destructor)) static void end(void)
 {
     char text[24];
     int length = snprintf(text, sizeof text, "%llu", made);
-    if (is_endless)
+    if (is_counted)
         syscall(SYS_write, met, text, (size_t)length);
 }
 

@@ -35,9 +35,9 @@ def with_below(names):
 
 
 class Copy:
-    """A copy of these crates and of those below them; the edits in the folder `edits` of each become those that `rt ci` tries."""
+    """A copy of these crates and of those below them, without edits."""
 
-    def __init__(self, names, edits=None):
+    def __init__(self, names):
         if not shutil.which('rt'):
             sys.exit('there is no rt on the PATH: install the Rattle kit')
         for number in ENDING:
@@ -52,10 +52,7 @@ class Copy:
         with open(self.path('crates.txt'), 'w', encoding='utf-8') as file:
             file.writelines(self.crates.values())
         for name in self.crates:
-            folder = os.path.join(TOP, 'crates', name)
-            shutil.copytree(folder, self.path('crates', name), ignore=shutil.ignore_patterns(*LEFT_OUT))
-            if edits and name in names:
-                shutil.copytree(os.path.join(folder, edits), self.path('crates', name, 'must-fail'))
+            shutil.copytree(os.path.join(TOP, 'crates', name), self.path('crates', name), ignore=shutil.ignore_patterns(*LEFT_OUT))
 
     def path(self, *names):
         return os.path.join(self.room, *names)

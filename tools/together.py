@@ -1,120 +1,100 @@
 """Wrong bodies that are tried together, by one check of a crate.
 
-A check takes as long to read the libraries as to refuse a handful of edits, and each function is proved by itself, from the
-contracts of those that it calls. So edits inside the bodies of different functions are made at once, and each is refused if the
-prover finds its function wrong. What this can't tell, such as an edit of a constant, or one that doesn't compile, is left to be
-tried by itself.
+Each function is proved by itself, from the contracts of those that it calls, and a check takes as long to read the libraries as to refuse
+several edits. So edits of different functions are made at once, and the check is asked about these functions alone: the proof of every
+other one is left open, since `rt ci` has proved it. What this can't tell, such as an edit of a constant, is left to be tried by itself.
+
+An edit is refused if the prover reports a goal of its function that isn't proved. Where it only says that a stored answer no longer fits,
+or that a name is gone, the edit is undecided: that says nothing of the contract.
 """
 
+import enum
+import json
 import os
 import re
 import subprocess
+import tempfile
 import threading
 
-FUNCTION = re.compile(r'( *)(?:pub(?:\([a-z]+\))? )?(?:const |unsafe )*fn (\w+)')
-# What the prover says of a function: in src/ that something isn't proved, or in the function's own answers.
-IN_SOURCE = re.compile(r'(?:note: )?(?:\./)?(src/\w+\.rt):(\d+):\d+: (?:it is not proved|.*\bis not proved\b)')
-IN_ANSWERS = re.compile(r'(?:\./)?proofs/(\w+)/(?:[^:]+/)?(\w+)/\w+\.antt:\d+:\d+: error: (.*)')
-# An answer that names what an edit took away says nothing of the contract.
-IS_GONE = re.compile(r'has no field|is not in scope|has no `|was not admitted')
+from copies import with_below
+
 # With too many at once, one that doesn't compile spoils too much.
 MOST = 24
+# What the prover says of a goal that has no answer in a proof file, above the line of its function; of one whose answer is a search that
+# finds nothing; and of an answer whose goal is there no more. Whatever else it says of an answer is that this doesn't fit.
+NOT_PROVED = re.compile(r'(?:note: )?(?:\./)?src/\w+\.rt:\d+:\d+: it is not proved that')
+OF_FUNCTION = re.compile(r'fn (\S+): ')
+# (a function that calls itself without end has no measure)
+NO_END = re.compile(r'expected a measure in \S*/\+')
+OF_PROOFS = re.compile(r'(?:\./)?proofs/(\S+)/\w+\.antt:\d+:\d+: error: (.*)')
+NO_PROOF = re.compile(r'`[^`]*`: (?:`(?:search|grind|cc|arith|omega)`|list the missing equation)')
+IS_GONE = re.compile(r'has no `|has no field|is not in scope')
+WAITS = re.compile(r'note: `search` has not tried the goals of `([^`]+)`')
+# A proof file that leaves the proof of a function open.
+OPEN = 'use Rattle.%s.proofs.%s.Statement.{statement}\n\npub %s_spec : {M : Type 1} → statement M\n%s_spec = ?\n'
+ENDED = re.compile(r'^only=\d+ ', re.M)
 
 
-def function_at(lines, at):
-    """The name of the function in whose body the line is, in a file as rt fmt lays it out; None outside of all bodies."""
-    for start in range(at, -1, -1):
-        found = FUNCTION.match(lines[start])
-        if not found:
-            continue
-        indent, name = found.groups()
-        end = next((it for it in range(start, len(lines)) if lines[it] == indent + '}'), start)
-        opened = (it for it in range(start, end) if lines[it] == indent + '{' or re.match(indent + r'(\S.*)? \{$', lines[it]))
-        return name if next(opened, end) < at < end else None
-    return None
+class Kind(enum.Enum):
+    """What a try of an edit came to."""
+
+    REFUSED = 'refused, as it must be'
+    UNDECIDED = 'undecided: only a stored answer no longer fits'
+    PROVED = 'NOT REFUSED: its function is still proved'
+    UNREAD = "not read: it can't be applied, or doesn't compile"
 
 
-class Edit:
-    """An edit of a crate: pairs of texts, each with the file that has it."""
-
-    def __init__(self, path):
-        self.path = path
-        self.name = '/'.join((os.path.basename(os.path.dirname(os.path.dirname(path))), os.path.basename(path)))
-        self.pairs = []
-        file = old = None
-        with open(path, encoding='utf-8') as edit:
-            for line in edit.read().split('\n'):
-                if line.startswith('file: '):
-                    file = line[len('file: '):].strip()
-                elif line.startswith('old: '):
-                    old = line[len('old: '):]
-                elif line.startswith('new:'):
-                    self.pairs.append((file, old, line[len('new:'):].removeprefix(' ')))
-
-    def made_in(self, texts):
-        """The texts with this edit, by file, and the functions whose bodies it changes; None where that can't be told."""
-        texts, functions = dict(texts), set()
-        for file, old, new in self.pairs:
-            text = texts.get(file, '')
-            if text.count(old) != 1:
-                return None
-            function = function_at(text.split('\n'), text[:text.index(old)].count('\n'))
-            if function is None:
-                return None
-            functions.add((file, function))
-            texts[file] = text.replace(old, new)
-        return texts, functions
-
-
-def batches(edits, texts):
-    """The edits in batches, each a list of edits with their functions; and those that have to be tried by themselves."""
-    waiting, alone, found = list(edits), [], []
+def batches(edits, texts, most):
+    """The edits in batches, each a list of edits with their functions: no two change one function."""
+    waiting = list(edits)
     while waiting:
         batch, now, taken, later = [], texts, set(), []
         for edit in waiting:
-            made = edit.made_in(now) if len(batch) < MOST else None
-            if made and not made[1] & taken:
-                now, functions = made
-                taken |= functions
+            functions, made = edit.functions_in(texts), edit.made_in(now)
+            if made and len(batch) < most and not functions & taken:
+                now, taken = made, taken | functions
                 batch.append((edit, functions))
-            elif edit.made_in(texts):
-                later.append(edit)
             else:
-                alone.append(edit)
-        if batch:
-            found.append(batch)
+                later.append(edit)
+        yield batch
         waiting = later
-    return found, alone
 
 
-def wrong_functions(said, texts):
-    """The functions, each with its file, that the prover finds wrong, by what it says of a crate with these texts."""
-    functions = set()
-    for line in said.split('\n'):
-        source, answers = IN_SOURCE.match(line), IN_ANSWERS.match(line)
-        if source and source[1] in texts:
-            lines = texts[source[1]].split('\n')
-            functions.add((source[1], function_of(lines, int(source[2]) - 1)))
-        elif answers and not IS_GONE.search(answers[3]):
-            functions.add(('src/%s.rt' % answers[1], answers[2]))
-    return functions
+class Kit:
+    """The prover and the libraries of the kit whose rt is on the PATH."""
 
+    def __init__(self):
+        page = subprocess.run(['rt', 'doc'], stdout=subprocess.PIPE, check=True, text=True).stdout.strip()
+        self.folder = os.path.dirname(page)
+        self.prover = self.path('bin', 'rattle')
 
-def function_of(lines, at):
-    """The function that the line belongs to, with its contract."""
-    below = (FUNCTION.match(lines[it]) for it in range(min(at, len(lines) - 1), -1, -1))
-    return next((found[2] for found in below if found), None)
+    def path(self, *names):
+        return os.path.join(self.folder, *names)
+
+    def words(self, copy, name):
+        """The words by which the prover checks a crate of a copy over the libraries that `rt ci` has built there."""
+        def library(crate):
+            return copy.path('crates', crate, 'out', 'rlib')
+        below = with_below([name])
+        uses = below[name].split(':')[1].split()
+        links = [(it, os.path.join(library(it), it + '.rlib')) if it in below else (it, self.path('rlibs', it + '.rlib')) for it in ['std', *uses]]
+        root = 'src/lib.rt' if os.path.isfile(copy.path('crates', name, 'src', 'lib.rt')) else 'src/main.rt'
+        return [self.prover, 'check', '--crate-name', name, root, *(word for link in links for word in ('--extern', '%s=%s' % link)),
+                *(word for it in below if it != name for word in ('-L', 'dependency=' + library(it))),
+                '-L', 'dependency=' + self.path('rlibs'), '--antt-project', self.path('rattle', 'logic', 'antt-project.json'),
+                '--logic-built', self.path('logic_built'), '--jobs', '1', '--allow-holes']
 
 
 class Crate:
-    """A crate in a copy of the repository."""
+    """A crate in a copy of the repository, over built libraries."""
 
-    def __init__(self, folder, is_only):
-        self.folder = folder
-        # (rt spreads the check of an only crate over idle processors)
-        self.check = ['rt', 'check'] if is_only else ['rt', 'check', '--jobs', '1']
-        src = os.path.join(folder, 'src')
-        self.texts = {'src/' + name: self.text('src/' + name) for name in os.listdir(src) if name.endswith('.rt')}
+    def __init__(self, kit, copy, name):
+        self.name, self.folder = name, copy.path('crates', name)
+        self.words = [*kit.words(copy, name), '--incremental', tempfile.mkdtemp(dir=copy.room)]
+        files = (os.path.join(at, it) for part in ('src', 'proofs') for at, _, names in os.walk(os.path.join(self.folder, part)) for it in names)
+        self.texts = {file: self.text(file) for file in (os.path.relpath(it, self.folder) for it in files)}
+        with open(os.path.join(self.folder, 'out', 'rlib', name + '.rlib', 'toolchain', 'mir.json'), encoding='utf-8') as file:
+            self.functions = {it[0].removeprefix(name + '::') for it in json.load(file)}
         self.lock, self.running, self.has_ended = threading.Lock(), None, False
 
     def text(self, file):
@@ -122,23 +102,55 @@ class Crate:
             return it.read()
 
     def write(self, texts):
+        """Writes these files, and removes those without a text."""
         for file, text in texts.items():
-            if text != self.text(file):
-                with open(os.path.join(self.folder, file), 'w', encoding='utf-8') as it:
-                    it.write(text)
+            path = os.path.join(self.folder, file)
+            if text is None:
+                os.remove(path)
+                continue
+            os.makedirs(os.path.dirname(path), exist_ok=True)
+            with open(path, 'w', encoding='utf-8') as it:
+                it.write(text)
 
-    def said_of(self, texts):
-        """What `rt check` says of the crate with these texts; nothing once this was ended."""
-        self.write(texts)
+    def named(self, function):
+        """The function as the prover has it: a type's module may be another than that of the file with its methods."""
+        if function in self.functions:
+            return function
+        owner = function.split('::')[-2:]
+        found = [it for it in self.functions if [part.split('+')[0] for part in it.split('::')[-2:]] == owner]
+        return found[0] if len(found) == 1 else None
+
+    def of(self, path):
+        """The function that a name of the prover's belongs to: that of a closure is the function around it."""
+        parts = [it for it in path.split('::') if it != 'fn']
+        return next((name for end in range(len(parts), 0, -1) for name in ['::'.join(parts[:end])] if name in self.functions), None)
+
+    def left_open(self, functions):
+        """The files by which the proofs of all functions but these are left open, each with its text, or without one if it goes."""
+        texts = {}
+        for name in self.functions - functions:
+            parts = name.split('::')
+            if all(re.fullmatch(r'\w+', it) for it in parts):
+                folder = '/'.join(['proofs', *parts])
+                texts.update({file: None for file in (folder + '/Answers.antt', folder + '/Invariants.antt') if file in self.texts})
+                texts[folder + '/Proof.antt'] = OPEN % (self.name, '.'.join(parts), parts[-1], parts[-1])
+        return texts
+
+    def said_of(self, texts, functions):
+        """What the prover says of these functions, with these texts; nothing once this was ended."""
+        changes = {file: text for file, text in texts.items() if text != self.texts[file]}
+        changes.update(self.left_open(functions))
+        self.write(changes)
         try:
             with self.lock:
                 if self.has_ended:
                     return ''
-                self.running = subprocess.Popen(self.check, cwd=self.folder, stdin=subprocess.DEVNULL, stdout=subprocess.PIPE,
+                asked = [word for it in sorted(functions) for word in ('--only', self.name + '::' + it)]
+                self.running = subprocess.Popen([*self.words, *asked], cwd=self.folder, stdin=subprocess.DEVNULL, stdout=subprocess.PIPE,
                                                 stderr=subprocess.STDOUT, text=True, errors='replace')
             return self.running.communicate()[0]
         finally:
-            self.write(self.texts)
+            self.write({file: self.texts.get(file) for file in changes})
 
     def end(self):
         """Ends the check that is running, and begins no other."""
@@ -147,27 +159,60 @@ class Crate:
             if self.running:
                 self.running.terminate()
 
-    def refused(self, batch):
-        """Those of a batch that the prover refuses. Where it reads none of them, since one doesn't compile, each half is tried."""
+    def faults(self, said):
+        """What the prover finds wrong: the functions with a goal that isn't proved, and those with an answer that doesn't fit."""
+        goals, answers, gone, is_open = set(), set(), set(), False
+        for line in said.split('\n'):
+            function, proofs = OF_FUNCTION.match(line), OF_PROOFS.match(line)
+            is_open = is_open or bool(NOT_PROVED.match(line))
+            if function:
+                is_open = is_open or bool(NO_END.search(line))
+                goals |= {(self.of(function[1].removeprefix(self.name + '::')), False)} if is_open else set()
+                is_open = False
+            elif proofs:
+                name = self.of(proofs[1].replace('/', '::'))
+                goals |= {(name, True)} if NO_PROOF.match(proofs[2]) else set()
+                answers.add(name)
+                gone |= {name} if IS_GONE.search(proofs[2]) else set()
+        # (a goal without an answer may be one whose name the edit has changed, if another's answer has lost its goal)
+        return {name for name, has_answer in goals if has_answer or name not in gone}, answers | {name for name, _ in goals}
+
+    def tried(self, batch):
+        """What each edit of a batch came to, and whether that may change without the others. Where the prover reads none of them, since
+        one doesn't compile, each half is tried."""
         texts = self.texts
         for edit, _ in batch:
-            texts = edit.made_in(texts)[0]
-        said = self.said_of(texts)
-        if re.search(r'^logic=', said, re.M):
-            wrong = wrong_functions(said, texts)
-            return [edit for edit, functions in batch if functions & wrong]
-        if len(batch) == 1:
-            return []
-        half = len(batch) // 2
-        return self.refused(batch[:half]) + self.refused(batch[half:])
+            texts = edit.made_in(texts)
+        said = self.said_of(texts, {self.named(it) for _, functions in batch for it in functions})
+        if not ENDED.search(said):
+            half = len(batch) // 2
+            return {**self.tried(batch[:half]), **self.tried(batch[half:])} if half else {batch[0][0]: (Kind.UNREAD, False)}
+        goals, wrong = self.faults(said)
+        waiting = {self.of(it.removeprefix(self.name + '::')) for it in WAITS.findall(said)}
+        return {edit: self.kind({self.named(it) for it in functions}, goals, wrong, waiting) for edit, functions in batch}
+
+    @staticmethod
+    def kind(functions, goals, wrong, waiting):
+        if functions & goals:
+            return Kind.REFUSED, False
+        return Kind.UNDECIDED if functions & wrong else Kind.PROVED, bool(functions & waiting)
 
     def try_together(self, edits, tell):
-        """Those of the edits that the prover refuses together with others. The crate by itself is proved first."""
-        if not re.search(r'^logic=proved', self.said_of(self.texts), re.M):
-            return []
-        refused = []
-        for batch in batches(edits, self.texts)[0]:
-            for edit in self.refused(batch):
-                refused.append(edit)
-                tell(edit)
-        return refused
+        """Tells what each edit came to, and returns those that have to be tried by themselves. One that may be refused without the
+        others of its batch is tried again, in the end alone."""
+        waiting = [it for it in edits if self.is_known(it)]
+        for most in (MOST, MOST, 1):
+            again = []
+            for batch in batches(waiting, self.texts, most):
+                for edit, (kind, may_change) in self.tried(batch).items():
+                    if len(batch) > 1 and (may_change or kind is Kind.PROVED):
+                        again.append(edit)
+                    else:
+                        tell(edit, kind)
+            waiting = again
+        return [it for it in edits if not self.is_known(it)]
+
+    def is_known(self, edit):
+        """Whether it can be told which functions the edit changes."""
+        functions = edit.functions_in(self.texts)
+        return bool(functions) and edit.made_in(self.texts) is not None and all(self.named(it) for it in functions)

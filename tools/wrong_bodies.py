@@ -1,37 +1,40 @@
-"""Tries the wrong bodies: the prover of a crate has to refuse each edit of its folder wrong-bodies/.
+"""Tries the wrong bodies: the prover of a crate has to refuse each edit of its folders must-fail/ and wrong-bodies/.
 
-usage: python3 tools/wrong_bodies.py [--changed COMMIT] [CRATE..]    (no crate: every one)
+usage: python3 tools/wrong_bodies.py [--chosen] [--changed COMMIT] [CRATE..]    (no crate: every one)
 
-With --changed only the edits that a change since that commit can touch are tried: the edit itself, a file that it edits, or a
-definition of its crate has changed. How many are left is said.
+With --chosen only those that the gate tries: the edits with the line `# tried by the gate`. With --changed only the edits that a change
+since that commit can touch: the edit itself, a file that it edits, or a definition of its crate has changed. How many are left is said.
 
-Edits of different functions are tried together, by `rt check` of a copy of their crate (together.py). Those that aren't refused
-there `rt ci` tries one by one, as it tries those of must-fail/, whose place they take in another copy. The crates and those below
-are proved first. An edit that can't be applied or read has failed. The last line is `N passed, M failed`.
+`rt ci` over a copy builds the libraries, of which it proves only what hasn't passed on this machine. Then edits of different functions
+are tried together (together.py). An edit of no function's body `rt ci` tries by itself, as one of must-fail/. Each edit is told as
+refused, as undecided (only a stored answer no longer fits, which says nothing of the contract), or as failed: not refused, or not
+read. One that every gate tries has failed too if it is undecided. The last line is `N passed, M failed`, and counts no other undecided
+edit; the line above says how many there are, by crate.
 """
 
 import argparse
+import collections
 import concurrent.futures
-import contextlib
 import os
 import re
+import shutil
 import subprocess
 import sys
 
 sys.dont_write_bytecode = True
 from copies import TOP, Copy, listed  # noqa: E402
-from together import Crate, Edit  # noqa: E402
+from edit import edits_of  # noqa: E402
+from together import Crate, Kind, Kit  # noqa: E402
 
-FOLDER = 'wrong-bodies'
-REFUSED = re.compile(r'rt: must-fail (\S+/\S+\.edit): refused, as it must be')
-EDITED = re.compile(r'^file: (\S+)$', re.M)
+ALONE = re.compile(r'rt: must-fail (\S+/\S+\.edit): (refused, as it must be|BAD EDIT)(.*)')
 
 
-def edits_of(crate):
-    """The crate's wrong bodies, as CRATE/NAME.edit."""
-    folder = os.path.join(TOP, 'crates', crate, FOLDER)
-    names = sorted(os.listdir(folder)) if os.path.isdir(folder) else []
-    return ['%s/%s' % (crate, name) for name in names if name.endswith('.edit')]
+def folder_of(crate):
+    return os.path.join(TOP, 'crates', crate)
+
+
+def is_library(crate):
+    return os.path.isfile(os.path.join(folder_of(crate), 'src', 'lib.rt'))
 
 
 def chosen(names):
@@ -40,7 +43,7 @@ def chosen(names):
     unknown = set(names) - set(crates)
     if unknown:
         sys.exit('wrong-bodies: crates.txt names no crate %s' % ', '.join(sorted(unknown)))
-    return [crate for crate in crates if edits_of(crate) and (not names or crate in names)]
+    return [crate for crate in crates if not names or crate in names]
 
 
 def changed_since(commit):
@@ -55,16 +58,14 @@ def changed_since(commit):
 
 def is_touched(edit, changed):
     """Whether a change of these files can change what becomes of the edit in its own crate."""
-    crate, name = edit.split('/')
-    own = 'crates/%s/' % crate
-    path = own + '%s/%s' % (FOLDER, name)
-    with open(os.path.join(TOP, path), encoding='utf-8') as file:
-        edited = {own + it for it in EDITED.findall(file.read())}
-    return path in changed or bool(edited & changed) or any(it.startswith(own + 'specs/') for it in changed)
+    own = 'crates/%s/' % edit.crate
+    edited = {own + file for file, _, _ in edit.pairs}
+    return os.path.relpath(edit.path, TOP) in changed or bool(edited & changed) or any(it.startswith(own + 'specs/') for it in changed)
 
 
 def words():
     parser = argparse.ArgumentParser(prog='wrong_bodies.py', allow_abbrev=False)
+    parser.add_argument('--chosen', action='store_true')
     parser.add_argument('--changed', metavar='COMMIT')
     parser.add_argument('crates', nargs='*', metavar='CRATE')
     return parser.parse_args()
@@ -77,51 +78,58 @@ def at_once():
     return max(1, min(os.cpu_count(), free // 4000000))
 
 
-def refused_together(edits):
-    """Those of the edits that are refused together with others."""
-    of_crate, refused = {}, set()
+def by_crate(edits):
+    found = collections.defaultdict(list)
     for edit in edits:
-        of_crate.setdefault(edit.split('/')[0], []).append(Edit(os.path.join(TOP, 'crates', edit.replace('/', '/%s/' % FOLDER))))
+        found[edit.crate].append(edit)
+    return found
 
-    def tell(edit):
-        refused.add(edit.name)
-        print('%s: refused, as it must be' % edit.name, flush=True)
 
-    with contextlib.ExitStack() as copies, concurrent.futures.ThreadPoolExecutor(at_once()) as workers:
-        crates = {name: Crate(copies.enter_context(Copy([name])).path('crates', name), len(of_crate) == 1) for name in of_crate}
+def try_together(edits, tell):
+    """Tells what each edit of a function's body came to, and returns the others. A program is no library, which could be built first."""
+    sets = by_crate(edit for edit in edits if is_library(edit.crate))
+    left = [edit for edit in edits if edit.crate not in sets]
+    if not sets:
+        return left
+    with Copy(list(sets)) as copy, concurrent.futures.ThreadPoolExecutor(at_once()) as workers:
+        if copy.ci(lambda line: 'NOT PROVED' in line and print(line, end='', flush=True)):
+            sys.exit('wrong-bodies: a crate is not proved, so nothing is tried')
+        kit = Kit()
+        crates = {name: Crate(kit, copy, name) for name in sets}
         try:
-            ends = [workers.submit(crate.try_together, of_crate[name], tell) for name, crate in crates.items()]
-            for end in concurrent.futures.as_completed(ends):
-                end.result()
+            # (those with most to do first)
+            order = sorted(sets, key=lambda it: -len(sets[it]))
+            ends = [workers.submit(crates[name].try_together, sets[name], tell) for name in order]
+            return left + [edit for end in concurrent.futures.as_completed(ends) for edit in end.result()]
         except BaseException:
             for crate in crates.values():
                 crate.end()
             raise
-    return refused
 
 
-def refused_alone(edits):
-    """Those of the edits that are refused, each by itself."""
-    refused = set()
-
-    def tell(line):
-        refused.update(REFUSED.findall(line))
-        print(line.replace('must-fail ', ''), end='', flush=True)
-
-    crates = sorted({edit.split('/')[0] for edit in edits})
-    with Copy(crates, FOLDER) as copy:
-        for crate in crates:
-            folder = copy.path('crates', crate, 'must-fail')
-            for name in os.listdir(folder):
-                if '%s/%s' % (crate, name) not in edits:
-                    os.remove(os.path.join(folder, name))
-        copy.ci(tell)
-    return refused
+def try_alone(edits, tell):
+    """Has `rt ci` try each edit by itself."""
+    with Copy(sorted({edit.crate for edit in edits})) as copy:
+        for edit in edits:
+            folder = copy.path('crates', edit.crate, 'must-fail')
+            os.makedirs(folder, exist_ok=True)
+            shutil.copy(edit.path, folder)
+        said = []
+        copy.ci(said.append)
+    found = {told[1]: told for line in said for told in [ALONE.match(line)] if told}
+    for edit in edits:
+        told = found.get(edit.name)
+        if not told:
+            tell(edit, Kind.PROVED)
+        elif told[2] == 'BAD EDIT':
+            tell(edit, Kind.UNREAD)
+        else:
+            tell(edit, Kind.UNDECIDED if 'only because a proof file names' in told[3] else Kind.REFUSED)
 
 
 def main():
     given = words()
-    edits = [edit for crate in chosen(given.crates) for edit in edits_of(crate)]
+    edits = [edit for crate in chosen(given.crates) for edit in edits_of(folder_of(crate)) if edit.is_marked or not given.chosen]
     if given.changed is not None:
         every, changed = edits, changed_since(given.changed)
         edits = [edit for edit in every if is_touched(edit, changed)]
@@ -129,16 +137,28 @@ def main():
               % (len(edits), len(every) - len(edits), given.changed), flush=True)
     if not edits:
         sys.exit('wrong-bodies: there are none')
-    refused = refused_together(edits)
-    left = [edit for edit in edits if edit not in refused]
+    kinds = {}
+
+    def tell(edit, kind):
+        kinds[edit] = kind
+        print('%s: %s' % (edit.name, kind.value), flush=True)
+
+    left = try_together(edits, tell)
     if left:
-        print('%d were refused together; %d are tried one by one' % (len(refused), len(left)), flush=True)
-        refused |= refused_alone(left)
-    missed = [edit for edit in edits if edit not in refused]
-    for edit in missed:
-        print('FAIL %s: not refused, or not tried' % edit)
-    print('%d passed, %d failed' % (len(edits) - len(missed), len(missed)))
-    return 1 if missed else 0
+        print('%d are tried one by one' % len(left), flush=True)
+        try_alone(left, tell)
+    return told_all(kinds)
+
+
+def told_all(kinds):
+    """Prints what was not refused, and the counts; the status to end with."""
+    undecided = by_crate(edit for edit, kind in kinds.items() if kind is Kind.UNDECIDED and not edit.is_tried_by_the_gate())
+    failed = [edit for edit, kind in kinds.items() if kind is not Kind.REFUSED and edit not in undecided.get(edit.crate, [])]
+    for edit in failed:
+        print('FAIL %s: %s' % (edit.name, kinds[edit].value))
+    print('undecided: %s' % (', '.join('%s %d' % (crate, len(them)) for crate, them in sorted(undecided.items())) or 'none'))
+    print('%d passed, %d failed' % (list(kinds.values()).count(Kind.REFUSED), len(failed)))
+    return 1 if failed else 0
 
 
 if __name__ == '__main__':

@@ -1,0 +1,127 @@
+"""The edits of must-fail/ and wrong-bodies/, and the functions that they change.
+
+An edit is a file of lines `file: PATH`, `old: TEXT` and `new: TEXT`. Each old text stands in its file exactly once, after the pairs
+before it. A line MARK says that the gate tries the edit.
+"""
+
+import os
+import re
+
+TIERS = ('must-fail', 'wrong-bodies')
+MARK = '# tried by the gate'
+# As rt fmt lays a function out: how far it is indented, and its name.
+FUNCTION = re.compile(r'( *)(pub )?(?:pub\([a-z]+\) )?(?:const |unsafe )*fn (\w+)')
+IMPL = re.compile(r'impl\b')
+
+
+class Edit:
+    """An edit of a crate: pairs of texts, each with the file that has it."""
+
+    def __init__(self, path):
+        self.path = path
+        self.crate = os.path.basename(os.path.dirname(os.path.dirname(path)))
+        self.name = '%s/%s' % (self.crate, os.path.basename(path))
+        self.pairs = []
+        file = old = None
+        with open(path, encoding='utf-8') as edit:
+            lines = edit.read().split('\n')
+        self.is_marked = MARK in lines
+        for line in lines:
+            if line.startswith('file: '):
+                file = line[len('file: '):].strip()
+            elif line.startswith('old: '):
+                old = line[len('old: '):]
+            elif line.startswith('new:'):
+                self.pairs.append((file, old, line[len('new:'):].removeprefix(' ')))
+
+    def is_tried_by_the_gate(self):
+        return self.is_marked or os.path.basename(os.path.dirname(self.path)) == TIERS[0]
+
+    def made_in(self, texts):
+        """The texts with this edit, by file; None where an old text isn't there once."""
+        texts = dict(texts)
+        for file, old, new in self.pairs:
+            if texts.get(file, '').count(old) != 1:
+                return None
+            texts[file] = texts[file].replace(old, new)
+        return texts
+
+    def functions_in(self, texts):
+        """The functions whose bodies it changes in these texts, by file; none if one of its places in src/ is outside of all bodies."""
+        functions = set()
+        for file, old, new in self.pairs:
+            if file.startswith('src/'):
+                text = texts.get(file, '')
+                at = text[:text.find(old)].count('\n')
+                functions.add(function_at(file, text.split('\n'), at, new.startswith(old)) if text.count(old) == 1 else None)
+        return set() if None in functions else functions
+
+
+def edits_of(crate, *tiers):
+    """The edits in the folder of a crate, by name."""
+    for tier in tiers or TIERS:
+        folder = os.path.join(crate, tier)
+        for name in sorted(os.listdir(folder)) if os.path.isdir(folder) else []:
+            if name.endswith('.edit'):
+                yield Edit(os.path.join(folder, name))
+
+
+def body_of(lines, start, indent):
+    """The lines between which the body of the function stands that begins at a line: those of its braces."""
+    end = next((it for it in range(start, len(lines)) if lines[it] == indent + '}'), start)
+    opened = (it for it in range(start, end) if lines[it] == indent + '{' or re.match(indent + r'(\S.*)? \{$', lines[it]))
+    return next(opened, end), end
+
+
+def function_at(file, lines, at, has_own_body):
+    """The function in whose body the line is, as the prover names it below its crate; None outside of all bodies. An edit that puts
+    a body of its own behind a function's first line is in that function."""
+    start = start_of(lines, at)
+    if start is None:
+        return None
+    begins, ends = body_of(lines, start, FUNCTION.match(lines[start])[1])
+    return path_of(file, lines, start) if begins < at < ends or has_own_body and at == start else None
+
+
+def start_of(lines, at):
+    """Where the last function begins that does so at or above a line."""
+    return next((it for it in range(at, -1, -1) if FUNCTION.match(lines[it])), None)
+
+
+def path_of(file, lines, start):
+    """What the prover calls the function that begins at a line: its module, its type if it is a method, with the trait's name, and its own."""
+    found, module = FUNCTION.match(lines[start]), os.path.basename(file)[:-len('.rt')]
+    parts = [] if module in ('lib', 'main') else [module]
+    if found[1]:
+        parts.append(owner_of(lines, start))
+    return '::'.join([*parts, found[3]])
+
+
+def owner_of(lines, start):
+    """The type of the impl block around a line, and behind it the trait."""
+    first = next((it for it in range(start, -1, -1) if IMPL.match(lines[it])), start)
+    head = without_generics(' '.join(lines[first:start]).partition('{')[0])
+    trait, between, kind = head.removeprefix('impl').partition(' for ')
+    names = [kind, trait] if between else [trait]
+    return ''.join(it.split(' where ')[0].strip().lstrip('&').split('::')[-1] for it in names)
+
+
+def without_generics(text):
+    while True:
+        less = re.sub(r'<[^<>]*>', '', text.replace('->', ''))
+        if less == text:
+            return text
+        text = less
+
+
+def public_functions(folder):
+    """The public functions of a crate, each as the prover names it. A law has no body that could be wrong, so it isn't one of them."""
+    for name in sorted(os.listdir(os.path.join(folder, 'src'))):
+        with open(os.path.join(folder, 'src', name), encoding='utf-8') as file:
+            lines = file.read().split('\n')
+        for start, line in enumerate(lines):
+            found = FUNCTION.match(line)
+            if found and found[2]:
+                begins, ends = body_of(lines, start, found[1])
+                if begins + 1 < ends:
+                    yield path_of(name, lines, start)
