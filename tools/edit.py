@@ -114,14 +114,22 @@ def without_generics(text):
         text = less
 
 
+def in_cycles(file, text):
+    """The functions of a file that call one another, which their attribute tells."""
+    lines = text.split('\n')
+    for at, line in enumerate(lines):
+        if re.match(r' *#\[cycle\(', line):
+            yield path_of(file, lines, next(it for it in range(at, len(lines)) if FUNCTION.match(lines[it])))
+
+
 def public_functions(folder):
-    """The public functions of a crate, each as the prover names it. A law has no body that could be wrong, so it isn't one of them."""
+    """The public functions of a crate, each as the prover names it. A law (src/laws.rt) has no body that could be wrong, so it isn't one of them."""
     for name in sorted(os.listdir(os.path.join(folder, 'src'))):
+        if name == 'laws.rt':
+            continue
         with open(os.path.join(folder, 'src', name), encoding='utf-8') as file:
             lines = file.read().split('\n')
         for start, line in enumerate(lines):
             found = FUNCTION.match(line)
             if found and found[2]:
-                begins, ends = body_of(lines, start, found[1])
-                if begins + 1 < ends:
-                    yield path_of(name, lines, start)
+                yield path_of(name, lines, start)

@@ -17,6 +17,7 @@ import tempfile
 import threading
 
 from copies import with_below
+from edit import in_cycles
 
 # With too many at once, one that doesn't compile spoils too much.
 MOST = 24
@@ -32,6 +33,8 @@ IS_GONE = re.compile(r'has no `|has no field|is not in scope')
 WAITS = re.compile(r'note: `search` has not tried the goals of `([^`]+)`')
 # A proof file that leaves the proof of a function open.
 OPEN = 'use Rattle.%s.proofs.%s.Statement.{statement}\n\npub %s_spec : {M : Type 1} → statement M\n%s_spec = ?\n'
+LEMMAS = re.compile(r'proofs/(?:\w+/)*(?!Answers|Invariants|Lib\b)[A-Z]\w*\.antt')
+LEMMA = re.compile(r'(?:pub )?(\S+) : ')
 ENDED = re.compile(r'^only=\d+ ', re.M)
 
 
@@ -58,6 +61,21 @@ def batches(edits, texts, most):
                 later.append(edit)
         yield batch
         waiting = later
+
+
+def without_proofs(text):
+    """A file of lemmas in which the proof of each is one hole. What can be unfolded (`abbrev`) stays as it is."""
+    kept, is_open = [], False
+    for paragraph in text.split('\n\n'):
+        lines = paragraph.split('\n')
+        # (what a proof defines for itself goes on behind an empty line)
+        if is_open and paragraph.startswith(' '):
+            continue
+        found = next((it for it in map(LEMMA.match, lines) if it), None)
+        begin = found and next((it for it, line in enumerate(lines) if line.split(' ')[0] == found[1] and not LEMMA.match(line)), None)
+        is_open = bool(begin)
+        kept.append('\n'.join([*lines[:begin], found[1] + ' = ?']) if is_open else paragraph)
+    return '\n\n'.join(kept) + '\n' * (text.endswith('\n') and not kept[-1].endswith('\n'))
 
 
 class Kit:
@@ -95,6 +113,8 @@ class Crate:
         self.texts = {file: self.text(file) for file in (os.path.relpath(it, self.folder) for it in files)}
         with open(os.path.join(self.folder, 'out', 'rlib', name + '.rlib', 'toolchain', 'mir.json'), encoding='utf-8') as file:
             self.functions = {it[0].removeprefix(name + '::') for it in json.load(file)}
+        # (functions that call one another have one proof of their own)
+        self.in_cycles = {self.named(function) for file, text in self.texts.items() if file.startswith('src/') for function in in_cycles(file, text)}
         self.lock, self.running, self.has_ended = threading.Lock(), None, False
 
     def text(self, file):
@@ -126,9 +146,10 @@ class Crate:
         return next((name for end in range(len(parts), 0, -1) for name in ['::'.join(parts[:end])] if name in self.functions), None)
 
     def left_open(self, functions):
-        """The files by which the proofs of all functions but these are left open, each with its text, or without one if it goes."""
-        texts = {}
-        for name in self.functions - functions:
+        """The files by which the proofs of all functions but these are left open, and those of lemmas, each with its text, or without
+        one if it goes."""
+        texts = {file: without_proofs(text) for file, text in self.texts.items() if LEMMAS.fullmatch(file)}
+        for name in self.functions - functions - self.in_cycles:
             parts = name.split('::')
             if all(re.fullmatch(r'\w+', it) for it in parts):
                 folder = '/'.join(['proofs', *parts])
