@@ -9,6 +9,7 @@ import resource
 import shutil
 import signal
 import subprocess
+import sys
 import textwrap
 import time
 
@@ -215,7 +216,7 @@ def export_faults(it):
     """What can't be read is reported and noted; the other files are whole."""
     for number, (trouble, missing, said, why) in enumerate([
             ('forbid accounts', 'accounts.json',
-             'Error from server (Forbidden): accounts is? forbidden\nsorry\n',
+             'Error from server (Forbidden): accounts is? forbidden\\nsorry\n',
              'ended with status 1'),
             ('half-forbid cluster', 'cluster.json', 'Error from server (Forbidden): half of cluster\n', 'ended with status 1'),
             ('down api-metrics.k8s.io-v1beta1', 'api-metrics.k8s.io-v1beta1.json',
@@ -232,7 +233,7 @@ def export_faults(it):
                 it.files(folder) == sorted({*WHOLE, 'incomplete.txt'} - {missing}), it.files(folder))
         noted = it.read(folder, 'incomplete.txt')
         reason = ' '.join(line for line in (said or '').splitlines()
-                          if not line.startswith('Warning'))
+                          if not line.startswith('Warning')).replace('\\n', ' ')
         it.checked('%s is noted, with its reason' % trouble,
                    noted.startswith(missing + ': kubectl get ')
                    and noted.endswith('%s%s\n' % (why, reason and ': ' + reason)), noted)
@@ -377,15 +378,25 @@ def interruptions(it):
             it.checked(name + ': no half export', not os.path.exists(os.path.join(it.work, 'new')) and it.files('old') == WHOLE, it.files('.'))
 
 
+# Runs the plugin in this process, which dies when it puts the first file in its place.
+KILLED = r'''
+import os, runpy, signal, sys
+put = os.replace
+def replace(path, place):
+    if os.path.dirname(place) == 'prod' and place.endswith('.json'):
+        os.kill(os.getpid(), signal.SIGKILL)
+    put(path, place)
+os.replace = replace
+sys.argv = sys.argv[2:]
+runpy.run_path(sys.argv[0], run_name='__main__')
+'''
+
+
 @in_each_shell
 def publishing(it):
     """An export that is cut off while its files are put in place says so, and doesn't answer."""
     it.run('export', 'prod')
-    with open(os.path.join(it.bin, 'mv'), 'w', encoding='utf-8') as file:
-        file.write('#!/bin/sh\ncase "$*" in *prod/) kill -9 $PPID ;; *) exec %s "$@" ;; esac\n' % shutil.which('mv'))
-    os.chmod(os.path.join(it.bin, 'mv'), 0o755)
-    status, _, _ = got = it.run('export', '--force', 'prod')
-    os.remove(os.path.join(it.bin, 'mv'))
+    status, _, _ = got = it.run('export', '--force', 'prod', within=[sys.executable, '-c', KILLED])
     it.checked('it is killed', status == -signal.SIGKILL, got)
     for name in os.listdir(os.path.join(it.work, 'prod')):
         if name.startswith('.rbacaudit'):

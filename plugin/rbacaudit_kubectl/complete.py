@@ -6,6 +6,7 @@ import os
 import subprocess
 from collections.abc import Iterator
 
+from .fields import STEP_NAMES
 from .options import COMMANDS, VALUES, Option, formats_of
 
 FILES, NOTHING, FOLDERS = ':0', ':4', ':16'
@@ -86,7 +87,7 @@ class Line:
         else:
             if name == '--context':
                 yield from contexts()
-            yield from formats_of(self.command) if name == '--output' else VALUES.get(name, ())
+            yield from {**VALUES, '--output': formats_of(self.command), '--steps': STEP_NAMES}.get(name, ())
             yield NOTHING
 
 

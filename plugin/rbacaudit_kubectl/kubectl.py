@@ -41,7 +41,7 @@ class Call:
     words: list[str]
     child: Child | None = None
     status: int = 0
-    said: str = ''
+    said: list[str] = field(default_factory=list)
 
     @property
     def told(self) -> str:
@@ -78,23 +78,23 @@ def look_at_context(session: Session, options: Options) -> Context:
     return Context(name, scheme + is_url + rest.partition('@')[2] if is_url and '@' in rest else server, namespace)
 
 
-def joined_lines(said: str) -> Iterator[str]:
-    """The lines of kubectl; a line break within the words of a server is told as \\n, so that no line begins with them."""
-    line = ''
-    for more in said.rstrip('\n').split('\n'):
-        if line and not KUBECTL_SAYS.match(more):
-            line += '\\n' + more
-            continue
-        if line:
-            yield line + '\n'
-        line = more
-    if line:
-        yield line + '\n'
+def joined_lines(lines: Iterable[str]) -> Iterator[str]:
+    """The lines of kubectl, piece by piece; a line break within the words of a server is told as \\n, so that no line begins
+    with them."""
+    is_open = False
+    for line in lines:
+        if is_open:
+            yield '\n' if KUBECTL_SAYS.match(line) else '\\n'
+        yield line
+        is_open = True
+    if is_open:
+        yield '\n'
 
 
-def say_kubectl(session: Session, said: str, without_log: bool = False) -> None:
-    """Passes on what kubectl said. A call that got what it asked for also logs each API group that doesn't answer."""
-    session.say(printable(''.join(line for line in joined_lines(said) if not (without_log and LOG.match(line)))))
+def say_kubectl(session: Session, lines: Iterable[str], without_log: bool = False) -> None:
+    """Passes on what kubectl says. A call that got what it asked for also logs each API group that doesn't answer."""
+    for piece in joined_lines(line for line in lines if not (without_log and LOG.match(line))):
+        session.say(printable(piece))
 
 
 def version_name(version: str, used: Iterable[str]) -> str:
@@ -210,15 +210,13 @@ class Reader:
         """Waits for a call; what it said is kept, or passed on line by line where it may ask who signs in."""
         assert call.child is not None
         if call.child.stderr is not None:
-            for line in call.child.stderr:
-                say_kubectl(self.session, text_of(line))
+            say_kubectl(self.session, (text_of(line).rstrip('\n') for line in call.child.stderr))
             call.child.stderr.close()
         call.status = self.session.end(call.child)
         said = self._path(call) + '.said'
-        if os.path.exists(said):
+        if os.path.exists(said) and os.path.getsize(said):
             with open(said, 'rb') as file:
-                call.said = text_of(file.read())
-            os.remove(said)
+                call.said = text_of(file.read()).removesuffix('\n').split('\n')
 
     def _settle(self, wanted: list[str]) -> None:
         """Takes what the oldest call has printed to its file, whole or not at all."""
@@ -244,6 +242,6 @@ class Reader:
     def _note_missing(self, call: Call, why: str) -> None:
         """The note has the server's own reason too, without kubectl's warnings and log."""
         self.session.report("%s can't be read: %s %s" % (call.name, call.told, why))
-        lines = (line for line in call.said.splitlines() if not line.startswith('Warning: ') and not LOG.match(line))
+        lines = (line for line in call.said if not line.startswith('Warning: ') and not LOG.match(line))
         reason = printable(' '.join(lines)).rstrip(' ')
         self.read.missing.append('%s: %s %s%s' % (call.name, call.told, why, reason and ': ' + reason))

@@ -93,8 +93,7 @@ COMMANDS: dict[str, Command] = {
     'page': Command('Write all of it as one HTML file, to look at', 'FILE', '', OF_PAGE + OWN),
     'export': Command('Write what rbacaudit reads into a folder', 'DIR', '', OF_EXPORT)}
 FORMATS = ('table', 'wide', 'json', 'name', 'tsv')
-VALUES = {'--output': FORMATS, '--color': ('auto', 'always', 'never'), '--fail-on': ('changes', 'gains', 'powers'),
-          '--steps': ('impersonate', 'token', 'run', 'exec', 'secrets', 'nodes', 'bind', 'escalate', 'certificates', 'webhooks')}
+VALUES = {'--color': ('auto', 'always', 'never'), '--fail-on': ('changes', 'gains', 'powers')}
 PATHS = ('--with', '--without', '--from', '--to')
 
 
