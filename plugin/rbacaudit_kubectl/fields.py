@@ -126,7 +126,7 @@ PRINCIPAL = '[ug]:' + FIELD
 # (names may have slashes, so it is enough that one of them parts two)
 ROLE = r'(?:ClusterRole/(?=[^\t])|Role/(?=[^\t]+/[^\t]))' + _REST
 BINDING = r'(?:ClusterRoleBinding/(?=[^\t])|RoleBinding/(?=[^\t]+/[^\t]))' + _REST
-NUMBER = '[1-9][0-9]*'
+NUMBER = '[1-9][0-9]{0,17}'
 STEP = '(?:%s)' % '|'.join(STEP_NAMES)
 # What a field of each kind looks like. Fields of `any` may be *, which is no name then.
 KINDS = {
