@@ -53,6 +53,7 @@ class Progress:
     """A line on a terminal that says how far something is, and goes away."""
 
     prefix: str = PLUGIN
+    room: int = 60
     is_drawn: bool = False
 
     def draw(self, text: str) -> None:
@@ -65,4 +66,4 @@ class Progress:
         """Takes the line away."""
         if self.is_drawn:
             self.is_drawn = False
-            say('\r%60s\r' % '')
+            say('\r%s\r' % (' ' * self.room))
