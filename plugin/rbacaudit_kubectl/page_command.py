@@ -22,7 +22,7 @@ from .stale import stale_in
 from .terminal import is_terminal, print_text
 
 # A rule with resourceNames, perhaps with a letter of it as an escape.
-NAMES = re.compile(rb'"resourceNames"|\\u00[4-7]')
+NAMES = re.compile(rb'"resourceNames"|\\u00([46][0-9A-Fa-f]|[57][0-9Aa])')
 
 
 def page_command(session: Session, words: list[str]) -> int:
@@ -37,7 +37,7 @@ def page_command(session: Session, words: list[str]) -> int:
     check_cluster(session, options)
     if options.diff and not os.access(options.diff, os.R_OK):
         raise Refused("can't read %s" % options.diff)
-    look_for_universes(session, options.paths, once=True)
+    look_for_universes(session, options.paths, once=not options.namespace)
     question = Question('matrix', files=options.paths, asked_in=options.namespace)
     if options.export:
         look_at_about(options.export)
