@@ -10,6 +10,7 @@ import os
 import re
 import shutil
 import subprocess
+import sys
 import textwrap
 
 from common import TOP, V1, skipped
@@ -97,7 +98,8 @@ def paths(it):
     put(it, {**FOLDER, **KUSTOMIZED})
     os.symlink('m', os.path.join(it.work, 'link'))
     os.symlink('../m/a-b.json', os.path.join(it.work, 'm', 'z.json'))
-    in_folder = [*IN_ORDER, 'Role/one', 'Role/two']
+    # (what a link within leads to is read once)
+    in_folder = IN_ORDER
     for given, found, said in ((['m'], in_folder, 'm'), (['m/'], in_folder, 'm/'), (['link'], in_folder, 'link'), (['m/a'], in_folder[1:4], 'm/a'),
                                (['m/a-b.json'], ['Role/one', 'Role/two'], 'm/a-b.json'), (['m/c, "d".json'], ['Role/comma'], 'm/c, "d".json'),
                                (['k/base'], ['Role/based'], 'k/base'), (['k/prod/', 'm/a'], ['Role/based', *in_folder[1:4]], 'k/prod/, m/a')):
@@ -179,7 +181,7 @@ REFUSED = [
     ('k/base/kustomization.yaml', KUSTOMIZED,
      'kubectl-rbacaudit: k/base/kustomization.yaml says how kustomize renders its folder: give the folder\n'),
     ('m', {'m/a\nb.json': ROLE}, 'kubectl-rbacaudit: a file or folder in m has a line break in its name: give it another\n'),
-    ('m\nb.json', {'m\nb.json': ROLE}, 'kubectl-rbacaudit: m\nb.json has a line break in its name: give it another\n')]
+    ('m\nb.json', {'m\nb.json': ROLE}, 'kubectl-rbacaudit: m\\nb.json has a line break in its name: give it another\n')]
 
 
 @with_manifests
@@ -208,8 +210,7 @@ def refusals(it):
 def without_kubectl(it):
     """Without kubectl no manifest is read, JSON or not: it alone says what a document means."""
     put(it, {'role.json': ROLE})
-    for tool in ('awk', 'cat', 'env', 'mkdir', 'mktemp', 'rm', 'sed', 'tr', it.shell):
-        os.symlink(shutil.which(tool), os.path.join(it.bin, tool))
+    os.symlink(sys.executable, os.path.join(it.bin, 'python3'))
     os.remove(os.path.join(it.bin, 'kubectl'))
     for line in (['read', 'role.json'], ['lint', 'role.json'], ['diff', '--from', 'role.json', '--to', 'role.json']):
         it.expect('without kubectl: %s' % line[0], line, 2, '', 'kubectl-rbacaudit: there is no kubectl on the PATH: it reads the manifests; '

@@ -14,14 +14,13 @@ from .documents import text_in, told
 from .errors import Refused
 from .escapes import bytes_of, on_one_line, text_of
 from .fields import in_key
-from .terminal import print_text, say
+from .terminal import print_text
 
 TYPE_CHECKING = False
 if TYPE_CHECKING:
     from collections.abc import Iterable, Iterator
     from typing import Any, Dict
 
-    from .options import Options
     from .processes import Session
 
     Item = Dict[str, Any]
@@ -42,11 +41,11 @@ class Manifests:
     """What was read from some paths: the file of its List, and each item with the file that it stands in."""
 
     paths: list[str]
-    list: str
     items: list[Item] = field(default_factory=list)
     origins: list[str] = field(default_factory=list)
     roles: int = 0
     bindings: int = 0
+    file: str = ''
 
     @property
     def named(self) -> str:
@@ -215,7 +214,7 @@ def read_objects(session: Session, paths: list[str]) -> Iterator[tuple[str, str,
 def run_calls(session: Session, calls: list[Call]) -> Iterator[tuple[Call, int, str]]:
     """Makes calls, some at a time: the status of each and what it printed. What it said is told."""
     # (kubectl reads neither a cluster nor a kubeconfig here)
-    environment = {**os.environ, 'KUBECONFIG': os.devnull, 'KUBERC': 'off'}
+    environment = {**session.environment, 'KUBECONFIG': os.devnull, 'KUBERC': 'off'}
     for at in range(0, len(calls), SIDE_BY_SIDE):
         going = []
         for number, call in enumerate(calls[at:at + SIDE_BY_SIDE]):
@@ -224,10 +223,13 @@ def run_calls(session: Session, calls: list[Call]) -> Iterator[tuple[Call, int, 
                 [*PATCH, *call.words], stdout=printed, stderr=said, env=environment)))
         for call, printed, said, child in going:
             status = session.end(child)
-            with printed, said:
-                texts = [file.seek(0) or text_of(file.read()) for file in (printed, said)]
+            texts = []
+            for file in (printed, said):
+                with file:
+                    file.seek(0)
+                    texts.append(text_of(file.read()))
             if texts[1]:
-                say(on_one_line(texts[1].rstrip('\n')) + '\n')
+                session.say(on_one_line(texts[1].rstrip('\n')) + '\n')
             yield call, status, texts[0]
 
 
@@ -251,7 +253,7 @@ def objects_in(printed: str) -> Iterator[tuple[str, Item]]:
 
 def take_manifests(session: Session, name: str, paths: list[str], namespace: str = '', offers: bool = True) -> Manifests:
     """Reads manifests into a list of this name, says what it has, and puts what has no namespace into this one."""
-    found = Manifests(paths, os.path.join('lists', name + '.json'))
+    found = Manifests(paths)
     texts, bare = [], []
     for origin, text, item in read_objects(session, paths):
         check_item(item, origin)
@@ -272,7 +274,8 @@ def take_manifests(session: Session, name: str, paths: list[str], namespace: str
     session.report('read from %s: %s' % (found.named, ', '.join('%d %s%s' % (
         many, what, '' if many == 1 else 's') for many, what in counts)))
     remark_on_bare(session, found, bare, namespace, offers)
-    found.list = session.write(found.list, '{"apiVersion":"v1","kind":"List","items":[\n%s\n]}\n' % '\n,\n'.join(texts))
+    found.file = session.write(
+        'manifests-%s.json' % name, '{"apiVersion":"v1","kind":"List","items":[\n%s\n]}\n' % '\n,\n'.join(texts))
     return found
 
 
@@ -325,16 +328,18 @@ def check_namespace(namespace: str) -> None:
 
 def read_command(session: Session, words: list[str]) -> int:
     """kubectl rbacaudit read: the manifests at some paths as one List."""
-    from .options import help_of, read_options
-    options: Options = read_options('read', words)
+    from .options import read_options
+    options = read_options('read', words)
     if options.help:
+        from .help import help_of
         print_text(help_of('read'))
         return 0
+    options.check_end()
     if not options.paths:
         raise Refused('read needs a path: a file, a folder, or - for standard input')
     check_inputs(options.paths)
     check_namespace(options.namespace)
     found = take_manifests(session, 'read', options.paths, options.namespace)
-    with open(found.list, 'rb') as file:
+    with open(found.file, 'rb') as file:
         print_text(text_of(file.read()), as_json=True)
     return 0

@@ -49,7 +49,7 @@ class Lines:
         kind, _, rest = key.partition('/')
         # (an object may have got its namespace from -n)
         bare = '%s/default/%s' % (kind, rest.partition('/')[2]) if kind in NAMESPACED else key
-        return lines.get(key) or lines.get(bare, 1)
+        return lines.get(key, lines.get(bare, 1))
 
 
 def names_in(path: str) -> Iterator[tuple[str, int]]:
