@@ -4,7 +4,7 @@ from __future__ import annotations
 
 import functools
 import re
-from collections.abc import Iterable, Iterator, Sequence
+from collections.abc import Sequence
 from dataclasses import dataclass
 
 from .escapes import bytes_of
@@ -35,11 +35,6 @@ def text_of(field: str) -> str:
     if '\\' not in field:
         return field
     return text_of_bytes(_ESCAPE.sub(lambda one: bytes([int(one[1], 16)]) if one[1] else b'\\', bytes_of(field)))
-
-
-def list_of(texts: Iterable[str]) -> str:
-    """Texts as a list in a line."""
-    return '[%s]' % ','.join(in_field(text).replace(',', '\\x2c') for text in texts)
 
 
 def words_of(field: str) -> list[str]:
@@ -195,9 +190,9 @@ SHAPES = (
            'POWERS_LOST:list'))
 
 
-def shapes_of(command: str) -> Iterator[Shape]:
-    """The shapes of the lines of a command."""
-    return (shape for shape in SHAPES if shape.command == command)
+# A row has its shape and its fields. What is no row, such as the last line of a matrix, has this shape and itself.
+Row = tuple[Shape, list[str]]
+REMARK = Shape('', 0, ())
 
 
 # ---- which of two commands

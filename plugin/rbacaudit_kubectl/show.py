@@ -8,21 +8,19 @@ import json
 import os
 import re
 import signal
-from collections.abc import Callable, Iterable, Iterator, Mapping, Sequence
+from collections.abc import Iterable, Iterator, Mapping, Sequence
 from dataclasses import dataclass
 
 from . import VERSION
 from .errors import Ended, Refused
 from .escapes import bytes_of, escaped
 from .escapes import text_of as text_of_bytes
-from .fields import NUMBER, SHAPES, Shape, shapes_of, text_of, words_of
+from .fields import NUMBER, REMARK, SHAPES, Row, Shape, text_of, words_of
 from .table import Table
 from .terminal import has_colors, is_terminal, print_text, report
 
 PROGRAM = 'rbacaudit-show'
-FORMATS = ('table', 'wide', 'json', 'name')
-COLORS = ('auto', 'always', 'never')
-
+CHOICES = {'-o': ('format', 'table', 'wide', 'json', 'name'), '--color': ('color', 'auto', 'always', 'never')}
 USAGE = '''\
 Show the lines of rbacaudit: as a table, as JSON, or as names.
 
@@ -87,26 +85,31 @@ UNKNOWN = ('no command of rbacaudit prints this: expected lines of can-i, who-ca
 class Reader:
     """Knows of which command lines are. All have to be of one, and their rows of one shape."""
 
-    is_indirect: bool = False  # whether lines that could also be of paths aren't
+    is_indirect: bool = False   # whether lines that could also be of paths aren't
     command: str = ''
     shape: Shape | None = None
+    fault: str = ''             # of the line at which reading ended
 
-    def cells_of(self, line: str) -> list[str]:
-        """The fields of a row; none of a remark."""
-        cells = self.shape.cells_of(line) if self.shape else []
-        if cells:
-            return cells
-        if self.is_remark(line):
-            return []
-        for shape in () if self.shape else self.candidates(line):
-            cells = shape.cells_of(line)
-            if cells:
-                self.shape, self.command = shape, shape.command
-                return cells
-        raise Refused(self.fault_of(line))
+    def rows_of(self, lines: Iterable[str]) -> Iterator[Row]:
+        """The rows of lines, and what is none, until a line that is neither."""
+        for number, line in enumerate(lines, 1):
+            cells = self.shape.cells_of(line) if self.shape else []
+            if not cells and self.is_remark(line):
+                yield REMARK, [line]
+                continue
+            for shape in () if self.shape else self.candidates(line):
+                cells = shape.cells_of(line)
+                if cells:
+                    self.shape, self.command = shape, shape.command
+                    break
+            if not cells:
+                self.fault = 'standard input line %d: %s' % (number, self.fault_of(line))
+                return
+            if self.shape:
+                yield self.shape, cells
 
     def is_remark(self, line: str) -> bool:
-        """Whether a line is a remark of the command."""
+        """Whether a line is a remark of the command, which it may be the first to tell."""
         for command, form in REMARKS:
             if self.command in ('', command) and form.fullmatch(line):
                 self.command = command
@@ -115,24 +118,32 @@ class Reader:
 
     def candidates(self, line: str) -> Iterator[Shape]:
         """The shapes that a first row may have."""
-        count = line.count('\t') + 1
-        for shape in shapes_of(self.command) if self.command else SHAPES:
-            if len(shape.fields) == count and not (self.is_indirect and shape.command == 'paths'):
+        for shape in SHAPES:
+            is_meant = shape.command == self.command if self.command else not (self.is_indirect and shape.command == 'paths')
+            if is_meant and len(shape.fields) == line.count('\t') + 1:
                 yield shape
 
     def fault_of(self, line: str) -> str:
         """What is wrong with a line, and what was expected."""
         if not self.command:
-            return ('this is JSON, as universe prints it: expected lines of another command' if line.startswith('{')
-                    else UNKNOWN)
-        shape = self.shape or next(shapes_of(self.command))
+            return 'this is JSON, as universe prints it: expected lines of another command' if line.startswith('{') else UNKNOWN
+        shape = self.shape or next(shape for shape in SHAPES if shape.command == self.command)
         return 'no line of %s as before: expected %s%d fields: %s%s' % (
             self.command, 'yes, no, or ' if self.command == 'can-i' else '', len(shape.fields),
-            ' '.join(column.head for column in shape.fields),
-            ', or end, or next and a token' if self.command == 'matrix' else '')
+            ' '.join(column.head for column in shape.fields), ', or end, or next and a token' if self.command == 'matrix' else '')
 
 
-# ---- JSON and names
+# ---- names and JSON
+
+def names_of(rows: Iterable[Row]) -> Iterator[str]:
+    """Who or what lines are about, once if several in a row are about the same."""
+    last = ''
+    for shape, cells in rows:
+        name = last if shape is REMARK else cells[shape.about]
+        if name not in (last, 'total'):
+            yield name + '\n'
+        last = name
+
 
 ENCODER = json.JSONEncoder(ensure_ascii=False, separators=(',', ':'))
 SURROGATE = re.compile('[\ud800-\udfff]')
@@ -149,53 +160,24 @@ def value_of(cell: str, kind: str) -> object:
     return cell if kind == 'sign' else text_of(cell)
 
 
-def bytes_beside(value: object) -> object:
-    """The bytes of a text, or of those in a list, if they aren't UTF-8."""
-    texts = value if isinstance(value, list) else [value] if isinstance(value, str) else []
-    if all(text.isascii() or not SURROGATE.search(text) for text in texts):
-        return None
-    found = [binascii.b2a_base64(bytes_of(text), newline=False).decode() for text in texts]
-    return found if isinstance(value, list) else found[0]
-
-
 def json_of(value: object) -> str:
     """A value as JSON, in which what isn't to be seen is a code, wherever it goes, and no UTF-8 is U+FFFD."""
     return escaped(SURROGATE.sub('\ufffd', ENCODER.encode(value)), as_json=True)
 
 
 def member_of(key: str, kind: str, cell: str) -> str:
-    """A field in the object of its line, and its bytes if they aren't UTF-8."""
+    """A field in the object of its line, and beside it the bytes of texts that aren't UTF-8."""
     value = value_of(cell, kind)
-    beside = bytes_beside(value)
-    return '"%s":%s' % (key, json_of(value)) + ('' if beside is None else ',"%s_bytes":%s' % (key, json_of(beside)))
+    texts = value if isinstance(value, list) else [value] if isinstance(value, str) else []
+    member = '"%s":%s' % (key, json_of(value))
+    if not any(map(SURROGATE.search, texts)):
+        return member
+    beside = [binascii.b2a_base64(bytes_of(text), newline=False).decode() for text in texts]
+    return '%s,"%s_bytes":%s' % (member, key, json_of(beside if kind == 'list' else beside[0]))
 
 
 # (the same short fields come in many lines)
 member_of_short = functools.lru_cache(maxsize=4096)(member_of)
-
-
-@dataclass
-class Json:
-    """An object for each line."""
-
-    write: Callable[[str], object]
-
-    def put_row(self, shape: Shape, cells: list[str]) -> None:
-        """Writes a row."""
-        members = [member_of_short(key, kind, cell) if len(cell) < 100 else member_of(key, kind, cell)
-                   for (key, kind), cell in zip(keys_of(shape, cells), cells)]
-        if cells[0] == 'total':
-            members[:3] = ['"total":true']
-        self.write('{%s}\n' % ','.join(members))
-
-    def put_remark(self, line: str) -> None:
-        """Writes an answer of can-i, or the last line of a matrix."""
-        word, _, token = line.partition('\t')
-        key, value = ('next', token) if word == 'next' else ('end', True) if word == 'end' else ('allowed', word == 'yes')
-        self.write(json_of({key: value}) + '\n')
-
-    def finish(self) -> None:
-        """Everything is written already."""
 
 
 def keys_of(shape: Shape, cells: Sequence[str]) -> Iterator[tuple[str, str]]:
@@ -206,26 +188,18 @@ def keys_of(shape: Shape, cells: Sequence[str]) -> Iterator[tuple[str, str]]:
         yield column.key, 'number' if is_place else column.kind
 
 
-@dataclass
-class Names:
-    """Who or what lines are about, once if several in a row are about the same."""
-
-    write: Callable[[str], object]
-    is_on_terminal: bool
-    last: str = ''
-
-    def put_row(self, shape: Shape, cells: list[str]) -> None:
-        """Writes the name of a row."""
-        name = cells[shape.about]
-        if name not in (self.last, 'total'):
-            self.write((escaped(name) if self.is_on_terminal else name) + '\n')
-        self.last = name
-
-    def put_remark(self, line: str) -> None:
-        """A remark has no name."""
-
-    def finish(self) -> None:
-        """Everything is written already."""
+def objects_of(rows: Iterable[Row]) -> Iterator[str]:
+    """An object for each line."""
+    for shape, cells in rows:
+        if shape is REMARK:
+            word, _, token = cells[0].partition('\t')
+            yield '{%s}\n' % {'next': '"next":"%s"' % token, 'end': '"end":true', 'yes': '"allowed":true', 'no': '"allowed":false'}[word]
+            continue
+        members = [member_of_short(key, kind, cell) if len(cell) < 100 else member_of(key, kind, cell)
+                   for (key, kind), cell in zip(keys_of(shape, cells), cells)]
+        if cells[0] == 'total':
+            members[:3] = ['"total":true']
+        yield '{%s}\n' % ','.join(members)
 
 
 # ---- the command
@@ -237,7 +211,7 @@ class Options:
     form: str = 'table'
     has_head: bool = True
     color: str = 'auto'
-    rules: str = ''  # the file after --rules
+    rules: str = ''     # the file after --rules
     is_indirect: bool = False
 
 
@@ -249,18 +223,17 @@ def read_options(words: Sequence[str]) -> Options:
         name, has_value, value = word.partition('=')
         if word.startswith('-o') and word != '-o':
             name, has_value, value = '-o', '=', word[2:].removeprefix('=')
-        if word in ('-h', '--help'):
-            print_text(USAGE)
-            raise Ended(0)
-        if word in ('-V', '--version'):
-            print_text('%s %s\n' % (PROGRAM, VERSION))
+        if word in ('-h', '--help', '-V', '--version'):
+            print_text(USAGE if word in ('-h', '--help') else '%s %s\n' % (PROGRAM, VERSION))
             raise Ended(0)
         if word == '--no-headers':
             options.has_head = False
         elif word == '--indirect':
             options.is_indirect = True
         elif name in ('-o', '--output', '--color', '--rules'):
-            take_value(options, name, value if has_value else left.pop(0) if left else None)
+            if not has_value and not left:
+                raise Refused(name + (' needs a value' if name in ('--color', '--rules') else ' needs a format: table, wide, json or name'))
+            take_value(options, name.replace('--output', '-o'), value if has_value else left.pop(0))
         elif len(word) > 1 and word.startswith('-'):
             raise Refused('there is no option %s; rbacaudit-show --help lists them' % word)
         else:
@@ -269,23 +242,20 @@ def read_options(words: Sequence[str]) -> Options:
     return options
 
 
-def take_value(options: Options, name: str, value: str | None) -> None:
+def take_value(options: Options, name: str, value: str) -> None:
     """Takes the value of an option."""
-    if value is None:
-        raise Refused('%s needs %s' % (name, 'a value' if name in ('--color', '--rules') else
-                                       'a format: table, wide, json or name'))
     if name == '--rules':
         options.rules = value
         if not os.path.isfile(value) or not os.access(value, os.R_OK):
             raise Refused("can't read " + value)
-    elif name == '--color':
-        options.color = value
-        if value not in COLORS:
-            raise Refused('there is no color %s: --color takes auto, always or never' % value)
-    else:
+        return
+    what, *choices = CHOICES[name]
+    if value not in choices:
+        raise Refused('there is no %s %s: %s takes %s or %s' % (what, value, name, ', '.join(choices[:-1]), choices[-1]))
+    if name == '-o':
         options.form = value
-        if value not in FORMATS:
-            raise Refused('there is no format %s: -o takes table, wide, json or name' % value)
+    else:
+        options.color = value
 
 
 def width_of_screen(environment: Mapping[str, str]) -> int:
@@ -302,36 +272,25 @@ def width_of_screen(environment: Mapping[str, str]) -> int:
 def show(lines: Iterable[bytes], form: str, *, headers: bool = True, color: str = 'auto', rules: str | None = None,
          indirect: bool = False) -> int:
     """Writes lines in a form, as they come, and gives the status. `rules` are lines of rules for a table."""
-    reader, number, on_terminal = Reader(indirect), 0, is_terminal(1)
+    reader, on_terminal = Reader(indirect), is_terminal(1)
+    given = (text_of_bytes(line).removesuffix('\n') for line in lines)
+    if form == 'json':
+        texts = objects_of(reader.rows_of(given))
+    elif form == 'name':
+        texts = names_of(reader.rows_of(map(escaped, given) if on_terminal else given))
+    else:
+        screen = width_of_screen(os.environ) if form == 'table' and on_terminal else 0
+        table = Table(headers, has_colors(color, os.environ), on_terminal, screen)
+        table.take_rules((rules or '').split('\n'))
+        texts = table.texts_of(reader.rows_of(map(table.seen, given)))
     with open(1, 'w', encoding='utf-8', errors='surrogateescape', newline='\n', closefd=False) as out:
-        printer: Table | Json | Names
-        if form == 'json':
-            printer = Json(out.write)
-        elif form == 'name':
-            printer = Names(out.write, on_terminal)
-        else:
-            printer = Table(out.write, headers, has_colors(color, os.environ), on_terminal,
-                            width_of_screen(os.environ) if form == 'table' and on_terminal else 0)
-            printer.take_rules((rules or '').split('\n'))
-        try:
-            for number, data in enumerate(lines, 1):
-                line = text_of_bytes(data).removesuffix('\n')
-                if isinstance(printer, Table):
-                    line = printer.seen(line)
-                cells = reader.cells_of(line)
-                if cells and reader.shape:
-                    printer.put_row(reader.shape, cells)
-                else:
-                    printer.put_remark(line)
-                if on_terminal:
-                    out.flush()
-        except Refused as fault:
-            printer.finish()
-            out.flush()
-            report('standard input line %d: %s' % (number, fault), PROGRAM)
-            return 2
-        printer.finish()
-    return 0
+        for text in texts:
+            out.write(text)
+            if on_terminal:
+                out.flush()
+    if reader.fault:
+        report(reader.fault, PROGRAM)
+    return 2 if reader.fault else 0
 
 
 def lines_in(number: int) -> Iterator[bytes]:
@@ -345,15 +304,13 @@ def lines_in(number: int) -> Iterator[bytes]:
 
 def run(words: Sequence[str]) -> int:
     """Shows what standard input has."""
-    options = read_options(words)
+    options, rules = read_options(words), ''
     if is_terminal(0):
         raise Refused('lines come from a pipe or a file: rbacaudit rules u:kim *.json | rbacaudit-show')
-    rules = ''
     if options.rules:
         with open(options.rules, encoding='utf-8', errors='surrogateescape', newline='\n') as file:
             rules = file.read()
-    return show(lines_in(0), options.form, headers=options.has_head, color=options.color, rules=rules,
-                indirect=options.is_indirect)
+    return show(lines_in(0), options.form, headers=options.has_head, color=options.color, rules=rules, indirect=options.is_indirect)
 
 
 def main(words: Sequence[str]) -> int:

@@ -4,27 +4,26 @@ from __future__ import annotations
 
 import operator
 import re
-from collections.abc import Callable, Iterable, Iterator, Sequence
+from collections.abc import Iterable, Iterator, Sequence
 from dataclasses import dataclass, field
 
 from .escapes import escaped
-from .fields import Shape, powers_of, words_of
+from .fields import REMARK, Row, Shape, powers_of, words_of
 
-AHEAD = 500  # how many rows tell the widths of columns
-WIDEST = 400  # a longer name doesn't fill the screen with blanks
+AHEAD = 500     # how many rows tell the widths of columns
+WIDEST = 400    # a longer name doesn't fill the screen with blanks
 LEAST = 3
 LISTS = ('VERBS', 'GROUPS', 'RESOURCES', 'NAMES', 'URLS')
 # A blank at an end of a field, or behind another.
 BLANK = re.compile('(?<![^\t ]) | (?![^\t])')
-TWO_COLUMNS = re.compile('[\u1100-\u115f\u2e80-\ua4ff\uac00-\ud7bf\uf900-\ufaff\ufe30-\ufe6f\uff00-\uff60'
-                         '\uffe0-\uffe6\U0001f300-\U0001faff\U00020000-\U0003ffff]')
+TWO_COLUMNS = re.compile('[\u1100-\u115f\u2e80-\ua4ff\uac00-\ud7bf\uf900-\ufaff\ufe30-\ufe6f\uff00-\uff60\uffe0-\uffe6'
+                         '\U0001f300-\U0001faff\U00020000-\U0003ffff]')
 NO_COLUMN = re.compile('[\u0300-\u036f\ufe00-\ufe0f]')
 
 
 def columns_of(text: str) -> int:
     """How many columns of a terminal a text takes."""
-    return len(text) if text.isascii() else (
-        len(text) + len(TWO_COLUMNS.findall(text)) - len(NO_COLUMN.findall(text)))
+    return len(text) if text.isascii() else len(text) + len(TWO_COLUMNS.findall(text)) - len(NO_COLUMN.findall(text))
 
 
 def cut(text: str, room: int) -> tuple[str, int]:
@@ -66,22 +65,17 @@ def codes_of(command: str, cells: Sequence[str]) -> str:
 
 @dataclass
 class Table:
-    """A table that is written row by row, once its first rows have told the widths."""
+    """How a table is written, and the rules whose words stand below rows: their lists by source and place."""
 
-    write: Callable[[str], object]
     has_head: bool = True
     is_painted: bool = False
     is_on_terminal: bool = False
-    screen: int = 0  # the most columns of a line, or 0 for any number
+    screen: int = 0     # the most columns of a line, or 0 for any number
     rules: dict[tuple[str, str], list[list[str]]] = field(default_factory=dict)
-    widths: list[int] = field(default_factory=list)  # nothing before the head is written
-    held: list[list[str]] = field(default_factory=list)
-    shape: Shape | None = None
 
     def take_rules(self, lines: Iterable[str]) -> None:
-        """Takes lines of rules, whose words are shown below the rows that name their rules."""
-        for line in lines:
-            cells = line.rstrip('\n').split('\t')
+        """Takes lines of rules."""
+        for cells in (line.split('\t') for line in lines):
             if len(cells) == 10:
                 source, place, *lists = self.seen('\t'.join([*cells[2:4], *(cell[1:-1] for cell in cells[5:])])).split('\t')
                 self.rules[source, place] = [words_of('[%s]' % words) for words in lists]
@@ -92,58 +86,49 @@ class Table:
             line = escaped(line)
         return BLANK.sub(r'\\x20', line) if ' ' in line else line
 
-    def put_row(self, shape: Shape, cells: list[str]) -> None:
-        """Takes a row."""
-        if self.widths:
-            self.write_row(cells)
-            return
-        self.shape = shape
-        self.held.append(cells)
-        if len(self.held) == AHEAD:
-            self.open()
+    def texts_of(self, rows: Iterable[Row]) -> Iterator[str]:
+        """The table. What is no row stands below the rows before it, and a head below that."""
+        held: list[Row] = []
+        widths: list[int] = []
+        for shape, cells in rows:
+            if shape is REMARK:
+                yield from self.begin(held)[1]
+                yield cells[0] + '\n'
+                held, widths = [], []
+            elif widths:
+                yield self.text_of(shape, cells, widths)
+            else:
+                held.append((shape, cells))
+                if len(held) == AHEAD:
+                    widths, texts = self.begin(held)
+                    held = []
+                    yield from texts
+        yield from self.begin(held)[1]
 
-    def put_remark(self, line: str) -> None:
-        """Takes what is no row; it stands below the rows before it."""
-        self.finish()
-        self.widths = []
-        self.write(line + '\n')
+    def begin(self, rows: Sequence[Row]) -> tuple[list[int], list[str]]:
+        """The widths of columns that the first rows tell, and the head with these rows."""
+        heads = [[column.head for column in shape.fields] for shape, _ in rows[:1] if self.has_head]
+        widths = [min(max(map(columns_of, column)), WIDEST) for column in zip(*heads, *(cells for _, cells in rows))]
+        if self.screen and rows:
+            widths = narrowed(widths, self.screen)
+        return widths, [self.line_of(head, widths) + '\n' for head in heads] + [self.text_of(*row, widths) for row in rows]
 
-    def finish(self) -> None:
-        """Writes the rows that are held."""
-        if self.held:
-            self.open()
+    def text_of(self, shape: Shape, cells: list[str], widths: list[int]) -> str:
+        """A row, and below it the words of the rule that it names."""
+        line = self.line_of(cells, widths)
+        codes = codes_of(shape.command, cells) if self.is_painted else ''
+        lines = ['\033[%sm%s\033[0m' % (codes, line) if codes else line]
+        if self.rules and len(cells) == {'can-i': 5, 'who-can': 6}.get(shape.command):
+            lines += self.word_lines(self.rules.get((cells[-3], cells[-2]), []))
+        return '\n'.join([*lines, ''])
 
-    def open(self) -> None:
-        """Writes the head and the rows that are held."""
-        assert self.shape is not None
-        heads = [column.head for column in self.shape.fields]
-        columns = zip(*([heads] if self.has_head else []), *self.held)
-        self.widths = [min(max(map(columns_of, column)), WIDEST) for column in columns]
-        if self.screen:
-            self.widths = narrowed(self.widths, self.screen)
-        if self.has_head:
-            self.write(self.line_of(heads) + '\n')
-        rows, self.held = self.held, []
-        for cells in rows:
-            self.write_row(cells)
-
-    def write_row(self, cells: list[str]) -> None:
-        """Writes a row, and below it the words of the rule that it names."""
-        assert self.shape is not None
-        command, line = self.shape.command, self.line_of(cells)
-        codes = codes_of(command, cells) if self.is_painted else ''
-        self.write('\033[%sm%s\033[0m\n' % (codes, line) if codes else line + '\n')
-        if self.rules and len(cells) == {'can-i': 5, 'who-can': 6}.get(command):
-            for words in self.word_lines(self.rules.get((cells[-3], cells[-2]), [])):
-                self.write(words + '\n')
-
-    def line_of(self, cells: Sequence[str]) -> str:
-        """A row, its cells below each other and, on a screen, cut."""
+    def line_of(self, cells: Sequence[str], widths: Sequence[int]) -> str:
+        """Cells, each below the one above it and, on a screen, cut."""
         # (most rows need no more than this)
-        if ''.join(cells).isascii() and not (self.screen and any(map(operator.gt, map(len, cells), self.widths))):
-            return '  '.join(map(str.ljust, cells, self.widths)).rstrip(' ')
+        if ''.join(cells).isascii() and not (self.screen and any(map(operator.gt, map(len, cells), widths))):
+            return '  '.join(map(str.ljust, cells, widths)).rstrip(' ')
         parts = []
-        for text, width in zip(cells, self.widths):
+        for text, width in zip(cells, widths):
             wide = columns_of(text)
             if self.screen and wide > width:
                 text, wide = cut(text, width)

@@ -19,7 +19,6 @@ class Fields(unittest.TestCase):
 
     def test_lists(self):
         for texts, field in (([], '[]'), ([''], '[-]'), (['a,b', '-', ']'], '[a\\x2cb,\\x2d,]]')):
-            self.assertEqual(fields.list_of(texts), field)
             self.assertEqual([fields.text_of(word) for word in fields.words_of(field)], texts)
 
 

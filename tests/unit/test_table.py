@@ -3,21 +3,17 @@
 import itertools
 import unittest
 
-from rbacaudit_kubectl.fields import shapes_of
+from rbacaudit_kubectl.fields import SHAPES
 from rbacaudit_kubectl.table import Table, columns_of, cut, narrowed
 
-[HOLDERS, WHY] = shapes_of('who-can')
+[HOLDERS, WHY] = (shape for shape in SHAPES if shape.command == 'who-can')
 
 
 def table_of(rows, shape=HOLDERS, rules='', **how):
     """What a table writes of these rows."""
-    written = []
-    table = Table(written.append, **how)
+    table = Table(**how)
     table.take_rules(rules.splitlines())
-    for row in rows:
-        table.put_row(shape, table.seen(row).split('\t'))
-    table.finish()
-    return ''.join(written)
+    return ''.join(table.texts_of((shape, table.seen(row).split('\t')) for row in rows))
 
 
 class Tables(unittest.TestCase):
