@@ -4,6 +4,7 @@ from __future__ import annotations
 
 import json
 import os
+from contextlib import suppress
 
 from .escapes import bytes_of, text_of
 
@@ -27,33 +28,26 @@ def told(text: str) -> str:
     return text_of(data) if len(data) <= MOST_BYTES else data[:MOST_BYTES].decode('utf-8', 'ignore') + '..'
 
 
-def read_text(path: str) -> str | None:
+def read_text(path: str) -> str:
     """What is in a file. Nothing of a pipe, which can't be read again, nor of a file that nobody can read."""
-    try:
-        if not os.path.isfile(path):
-            return None
-        with open(path, 'rb') as file:
-            return text_of(file.read())
-    except OSError:
-        return None
+    with suppress(OSError):
+        if os.path.isfile(path):
+            with open(path, 'rb') as file:
+                return text_of(file.read())
+    return ''
 
 
 def read_document(path: str) -> Any:
     """The JSON value in such a file, or None."""
-    try:
-        return json.loads(read_text(path) or 'null')
-    except (ValueError, RecursionError):
-        return None
+    with suppress(ValueError, RecursionError):
+        return json.loads(read_text(path))
+    return None
 
 
-def item_of(document: Any, item: int) -> Any:
-    """An item of a list, counted from 1, or the document itself for 0."""
+def item_of(document: Any, item: int) -> tuple[Any, str]:
+    """An item of a list, counted from 1, or the document itself for 0; and its kind, which that of its list may imply."""
     if not item:
-        return document
+        return document, text_in(document, 'kind')
     items = document.get('items') if isinstance(document, dict) else None
-    return items[item - 1] if isinstance(items, list) and item <= len(items) else None
-
-
-def kind_of(document: Any, item: int) -> str:
-    """The kind of an item, which the kind of its list may imply, or of the document itself."""
-    return text_in(item_of(document, item), 'kind') or (text_in(document, 'kind').removesuffix('List') if item else '')
+    found = items[item - 1] if isinstance(items, list) and item <= len(items) else None
+    return found, text_in(found, 'kind') or text_in(document, 'kind').removesuffix('List')

@@ -9,22 +9,22 @@ from .manifests import KUSTOMIZATIONS, NAMESPACED, key_of
 TYPE_CHECKING = False
 if TYPE_CHECKING:
     from collections.abc import Iterable, Iterator
-    from typing import Any
+    from typing import Any, Tuple, Union
+    Place = Tuple[Union[str, int, None], ...]
+
+
+def source_of(origin: str) -> str:
+    """The file to show for what was read from there: of a folder, its kustomization. What is no file of a repository, such as a
+    pipe, has none."""
+    names = [origin, *(os.path.join(origin, name) for name in KUSTOMIZATIONS)]
+    is_shown = not origin.startswith(('/dev/', '/proc/'))
+    return next((name for name in names if is_shown and os.path.isfile(name)), '')
 
 
 def home_folder() -> str:
     """The folder in which the plugin is called, by the name that the caller has for it."""
     named = os.environ.get('PWD', '')
     return named if os.path.isabs(named) and os.path.exists(named) and os.path.samefile(named, '.') else os.getcwd()
-
-
-def source_of(origin: str) -> str:
-    """The file to show for what was read from there: of a folder, its kustomization. What is no file of a repository,
-    such as a pipe, has none."""
-    if origin.startswith(('/dev/', '/proc/')):
-        return ''
-    names = [origin, *(os.path.join(origin, name) for name in KUSTOMIZATIONS)]
-    return next((name for name in names if os.path.isfile(name)), '')
 
 
 def address_of(path: str, home: str) -> str:
@@ -44,15 +44,14 @@ class Lines:
     def line_of(self, path: str, key: str) -> int:
         """The line with the name of an object, or 1 where nobody can tell."""
         if path not in self._read:
-            self._read[path] = dict(names_in(path))
-        lines = self._read[path]
-        kind, _, rest = key.partition('/')
+            self._read[path] = dict(objects_in(path))
+        kind, _, name = key.partition('/')
         # (an object may have got its namespace from -n)
-        bare = '%s/default/%s' % (kind, rest.partition('/')[2]) if kind in NAMESPACED else key
-        return lines.get(key, lines.get(bare, 1))
+        bare = '%s/default/%s' % (kind, name.partition('/')[2]) if kind in NAMESPACED else key
+        return self._read[path].get(key) or self._read[path].get(bare) or 1
 
 
-def names_in(path: str) -> Iterator[tuple[str, int]]:
+def objects_in(path: str) -> Iterator[tuple[str, int]]:
     """The objects in a file, with the line of each name, as far as PyYAML reads it. Without PyYAML there are none."""
     import importlib
     import site
@@ -70,8 +69,8 @@ def names_in(path: str) -> Iterator[tuple[str, int]]:
 
 def objects_of(events: Iterable[Any]) -> Iterator[tuple[str, int]]:
     """The same by the events of PyYAML, which come one by one, however deep a file is nested."""
-    place: list[str | int | None] = []  # of each object and list that is open its last key: None before one, 0 of a list
-    fields: dict[tuple[str | int | None, ...], Any] = {}
+    place: list[str | int | None] = []  # the last key of each object that is open, None before one, and 0 for each list
+    fields: dict[Place, Any] = {}
     for event in events:
         what = type(event).__name__
         if what in ('MappingStartEvent', 'SequenceStartEvent'):
@@ -93,10 +92,9 @@ def objects_of(events: Iterable[Any]) -> Iterator[tuple[str, int]]:
             place[-1] = None
 
 
-def object_at(place: tuple[str | int | None, ...],
-              fields: dict[tuple[str | int | None, ...], Any]) -> Iterator[tuple[str, int]]:
+def object_at(place: Place, fields: dict[Place, Any]) -> Iterator[tuple[str, int]]:
     """The object whose fields have been read, with the line of its name, unless it is a list or has none."""
-    kind, namespace, name = (fields.pop(place + of, None) for of in (
-        ('kind',), ('metadata', 'namespace'), ('metadata', 'name')))
-    if hasattr(name, 'value') and (place or ('items',) not in fields):
-        yield key_of(getattr(kind, 'value', ''), getattr(namespace, 'value', ''), name.value), name.start_mark.line + 1
+    wanted: tuple[Place, ...] = ('kind',), ('metadata', 'namespace'), ('metadata', 'name')
+    found = [fields.pop(place + of, None) for of in wanted]
+    if hasattr(found[2], 'value') and (place or ('items',) not in fields):
+        yield key_of(*(getattr(one, 'value', '') for one in found)), found[2].start_mark.line + 1

@@ -1,27 +1,26 @@
-"""-o sarif: what lint and diff list as SARIF 2.1.0, which code hosts show beside a change. docs/FORMATS.md says what
-stands where."""
+"""-o sarif: what lint and diff list as SARIF 2.1.0, which code hosts show beside a change. docs/FORMATS.md says what stands where."""
 
 from __future__ import annotations
 
 import json
-from dataclasses import dataclass, field
+from dataclasses import dataclass
 from itertools import groupby, islice
 
 from . import VERSION
-from .documents import read_document, text_in
+from .documents import read_document
 from .escapes import escaped
-from .manifests import BINDINGS, Manifests, is_held, key_of_item, role_of
+from .manifests import Manifests, is_held, key_of_item, role_of
 from .places import Lines, address_of, home_folder, source_of
 from .stale import rows_of
 
 TYPE_CHECKING = False
 if TYPE_CHECKING:
-    from collections.abc import Iterable, Iterator
-    from typing import Any
+    from collections.abc import Iterator
+    from typing import Any, Dict
 
     from .answer import Asking
     from .manifests import Item
-    from .processes import Session
+    Part = Dict[str, Any]   # of the SARIF
 
 MOST = 25000    # GitHub refuses a file with more results
 FEW = 10        # how many permissions a message lists
@@ -30,20 +29,14 @@ SCHEMA = 'https://docs.oasis-open.org/sarif/sarif/v2.1.0/os/schemas/sarif-schema
 
 @dataclass(frozen=True)
 class Rule:
-    """What may be found: its id, its level, what it is in short and in full, what to do, and the message of a result."""
-
+    """What may be found: its id, name and level, what it is in short and in full, what to do, and the message of a result."""
     id: str
     name: str
     level: str
     short: str
     full: str
     help: str
-    message: str = ''
-
-    def described(self) -> dict[str, Any]:
-        """The rule as SARIF has it."""
-        return {'id': self.id, 'name': self.name, 'shortDescription': {'text': self.short}, 'fullDescription': {
-            'text': self.full}, 'help': {'text': self.help}, 'defaultConfiguration': {'level': self.level}}
+    message: str
 
 
 LINT = (
@@ -90,78 +83,70 @@ DIFF = (
          '{who} loses {permissions}{where}, granted before by {binding}: {listed}.'))
 
 
-@dataclass
 class Side:
     """The objects of a state, of which those of manifests may stand in files."""
 
-    lines: Lines
-    items: dict[str, Item] = field(default_factory=dict)
-    origins: dict[str, str] = field(default_factory=dict)
-
-    def take(self, items: Iterable[Item], origins: Iterable[str]) -> None:
-        """Adds objects: of several with one name, the last counts."""
-        for item, origin in zip(items, origins):
-            if is_held(item):
-                key = key_of_item(item)
-                self.items[key], self.origins[key] = item, origin
+    def __init__(self, lines: Lines, exported: list[Item], *manifests: Manifests) -> None:
+        self.lines, self.home = lines, home_folder()
+        placed = [pair for some in manifests for pair in zip(some.items, some.origins)]
+        # (of several with one name, the last counts)
+        self.objects = {key_of_item(item): (item, origin) for item, origin in [*((item, '') for item in exported), *placed] if is_held(item)}
 
     def source(self, key: str) -> str:
         """The file in which an object stands, or '' if it is in none."""
-        return source_of(self.origins.get(key, ''))
+        return source_of(self.objects[key][1]) if key in self.objects else ''
 
     def role(self, binding: str) -> str:
         """The role that a binding refers to."""
-        item = self.items.get(binding, {})
-        return role_of(item) if text_in(item, 'kind') in BINDINGS else ''
+        return role_of(self.objects[binding][0]) if binding in self.objects else ''
 
     def has_in_file(self, binding: str) -> bool:
         """Whether a binding or its role stands in a file."""
         return bool(self.source(binding) or self.source(self.role(binding)))
 
-    def location(self, key: str) -> dict[str, Any]:
+    def location(self, key: str) -> Part:
         """Where an object stands."""
-        found: dict[str, Any] = {'logicalLocations': [{'fullyQualifiedName': escaped(key), 'kind': 'resource'}]}
+        logical = {'logicalLocations': [{'fullyQualifiedName': escaped(key), 'kind': 'resource'}]}
         source = self.source(key)
-        if source:
-            address = {'uri': address_of(source, home_folder())}
-            if not address['uri'].startswith('file:'):
-                address['uriBaseId'] = '%SRCROOT%'
-            found['physicalLocation'] = {
-                'artifactLocation': address, 'region': {'startLine': self.lines.line_of(source, key)}}
-        return found
+        if not source:
+            return logical
+        address = {'uri': address_of(source, self.home)}
+        if not address['uri'].startswith('file:'):
+            address['uriBaseId'] = '%SRCROOT%'
+        return {'physicalLocation': {'artifactLocation': address, 'region': {'startLine': self.lines.line_of(source, key)}}, **logical}
 
 
 # ---- results
 
-def log_of(session: Session, command: str, rules: tuple[Rule, ...], results: Iterator[dict[str, Any]]) -> str:
+def log_of(asking: Asking, rules: tuple[Rule, ...], results: Iterator[Part]) -> str:
     """The SARIF of results: as many as code hosts take, and how many more there are."""
     taken = list(islice(results, MOST))
     left = sum(1 for _ in results)
-    ended: dict[str, Any] = {'executionSuccessful': True}
+    ended: Part = {'executionSuccessful': True}
     if left:
         said = '%d more results are left out, because code hosts take at most %d' % (left, MOST)
-        session.report(said)
+        asking.session.report(said)
         ended['toolExecutionNotifications'] = [{'level': 'warning', 'message': {'text': said + '.'}}]
-    driver = {'name': 'rbacaudit', 'semanticVersion': VERSION, 'rules': [rule.described() for rule in rules]}
+    described = [{'id': rule.id, 'name': rule.name, 'shortDescription': {'text': rule.short}, 'fullDescription': {'text': rule.full},
+                  'help': {'text': rule.help}, 'defaultConfiguration': {'level': rule.level}} for rule in rules]
+    driver = {'name': 'rbacaudit', 'semanticVersion': VERSION, 'rules': described}
     # (what is uploaded in another category stays)
-    run = {'tool': {'driver': driver}, 'automationDetails': {'id': 'rbacaudit-%s/' % command}, 'results': taken,
-           'invocations': [ended]}
+    category = {'id': 'rbacaudit-%s/' % asking.question.command}
+    run = {'tool': {'driver': driver}, 'automationDetails': category, 'results': taken, 'invocations': [ended]}
     return json.dumps({'$schema': SCHEMA, 'version': '2.1.0', 'runs': [run]}, ensure_ascii=False) + '\n'
 
 
-def result_of(rules: tuple[Rule, ...], at: int, fields: dict[str, str], mark: Iterable[str],
-              location: dict[str, Any], beside: dict[str, Any] | None = None) -> dict[str, Any]:
+def result_of(rules: tuple[Rule, ...], at: int, fields: dict[str, str], mark: list[str], location: Part, beside: Part | None = None) -> Part:
     """A result of a rule; `mark` tells it from others of the rule."""
-    result = {'ruleId': rules[at].id, 'ruleIndex': at, 'level': rules[at].level, 'message': {
-        'text': rules[at].message.format_map(fields)}, 'locations': [location]}
-    if beside:
-        result['relatedLocations'] = [beside]
-    return {**result, 'partialFingerprints': {'primaryLocationLineHash': escaped('\t'.join(mark))}}
+    more = {'relatedLocations': [beside]} if beside else {}
+    return {'ruleId': rules[at].id, 'ruleIndex': at, 'level': rules[at].level,
+            'message': {'text': rules[at].message.format_map(fields)}, 'locations': [location], **more,
+            'partialFingerprints': {'primaryLocationLineHash': escaped('\t'.join(mark))}}
 
 
 def shown(name: str) -> str:
-    """A field as messages have it: what a reader can't see is escaped, and so are the brackets and braces of which SARIF
-    makes links and arguments. A name with a blank is quoted."""
+    """A field as messages have it: what a reader can't see is escaped, and so are the brackets and braces of which SARIF makes links
+    and arguments. A name with a blank is quoted."""
     name = escaped(name)
     for one in '[]{}':
         name = name.replace(one, '\\x%02x' % ord(one))
@@ -170,73 +155,59 @@ def shown(name: str) -> str:
 
 def of_lint(asking: Asking, findings: str) -> str:
     """The findings of lint as SARIF."""
-    side = side_of(Lines(), [], *asking.manifests.values())
-    return log_of(asking.session, 'lint', LINT, (finding_of(side, *row) for row in rows_of(findings)))
+    side, numbers = Side(Lines(), [], *asking.manifests.values()), {rule.id: at for at, rule in enumerate(LINT)}
 
+    def finding_of(code: str, _: str, about: str, place: str, detail: str) -> Part:
+        fields = {'object': shown(about), 'place': place, 'detail': shown(detail), 'does': 'bind' if detail == 'bind' else 'write',
+                  'times': str(int(detail) + 1) if detail.isdigit() else ''}
+        mark = [about] if code == 'L7' else [about, place, detail]
+        return result_of(LINT, numbers[code], fields, mark, side.location(about))
 
-def finding_of(side: Side, code: str, _: str, object_: str, place: str, detail: str) -> dict[str, Any]:
-    """A finding as a result."""
-    fields = {'object': shown(object_), 'place': place, 'detail': shown(detail),
-              'does': 'bind' if detail == 'bind' else 'write', 'times': str(int(detail) + 1) if detail.isdigit() else ''}
-    mark = [object_] if code == 'L7' else [object_, place, detail]
-    return result_of(LINT, [rule.id for rule in LINT].index(code), fields, mark, side.location(object_))
+    return log_of(asking, LINT, (finding_of(*row) for row in rows_of(findings)))
 
 
 # ---- changes
 
-def of_diff(asking: Asking, old: Manifests | None, new: Manifests | None, lines: list[str]) -> str:
+def of_diff(asking: Asking, old: Manifests | None, new: Manifests | None, rows: list[list[str]]) -> str:
     """The changes of diff as SARIF."""
-    exported = [item for path in asking.files('cluster.json', 'namespaced.json') if old or new
-                for item in read_document(path)['items']]
-    known = Lines()
-    sides = [side_of(known, exported, *([manifests] if manifests else [])) for manifests in (old, new)]
-    return log_of(asking.session, 'diff', DIFF, changes_of(sides, [line.split('\t') for line in lines]))
+    files = asking.files('cluster.json', 'namespaced.json') if old or new else []
+    exported = [item for path in files for item in read_document(path)['items']]
+    lines = Lines()
+    sides = [Side(lines, exported, *([manifests] if manifests else [])) for manifests in (old, new)]
+    return log_of(asking, DIFF, changes_of(sides, rows))
 
 
-def side_of(lines: Lines, exported: list[Item], *manifests: Manifests) -> Side:
-    """The objects of an export, and those of manifests over it."""
-    side = Side(lines)
-    side.take(exported, [''] * len(exported))
-    for some in manifests:
-        side.take(some.items, some.origins)
-    return side
-
-
-def changes_of(sides: list[Side], rows: list[list[str]]) -> Iterator[dict[str, Any]]:
-    """The changes as results: a result has all that somebody gains, or loses, in one place through one binding. Gains come
-    first, as they matter more where some results are left out."""
+def changes_of(sides: list[Side], rows: list[list[str]]) -> Iterator[Part]:
+    """The changes as results: a result has all that somebody gains, or loses, in one place through one binding. Gains come first, as
+    they matter more where some results are left out."""
     for at, sign in enumerate('+-'):
-        signed = (row for row in rows if row[0] == sign)
-        for (who, where), group in groupby(signed, key=lambda row: (row[1], row[2])):
+        for (who, where), group in groupby((row for row in rows if row[0] == sign), key=lambda row: row[1:3]):
             by_binding: dict[str, list[list[str]]] = {}
             for row in group:
                 by_binding.setdefault(row[7], []).append(row)
             for binding, some in by_binding.items():
+                listed = ', '.join(map(permission_of, some[:FEW])) + (' and %d more' % (len(some) - FEW) if len(some) > FEW else '')
                 fields = {'who': ('The user ' if who.startswith('u') else 'The group ') + shown(who[2:]),
-                          'permissions': '1 permission' if len(some) == 1 else '%d permissions' % len(some),
+                          'permissions': '%d permission%s' % (len(some), 's'[len(some) == 1:]),
                           'where': {'-': '', '*': ' in all namespaces'}.get(where, ' in the namespace ' + shown(where)),
-                          'binding': shown(binding), 'listed': listed(some)}
-                yield result_of(DIFF, at, fields, (who, where, binding), *locations_of(sides, 1 - at, binding))
+                          'binding': shown(binding), 'listed': listed}
+                yield result_of(DIFF, at, fields, [who, where, binding], *locations_of(sides, 1 - at, binding))
 
 
-def listed(rows: list[list[str]]) -> str:
-    """The first permissions of some lines of diff, and how many more there are."""
-    texts = []
-    for _, _, where, verb, group, resource, name, _ in rows[:FEW]:
-        text = '%s %s' % (shown(verb), shown(resource))
-        if where != '-':
-            text += ('' if group == '-' else '.' + shown(group)) + ('' if name == '*' else ' named ' + shown(name))
-        texts.append(text)
-    return ', '.join(texts) + (' and %d more' % (len(rows) - FEW) if len(rows) > FEW else '')
+def permission_of(row: list[str]) -> str:
+    """The permission of a line of diff."""
+    where, verb, group, resource, name = row[2:7]
+    text = '%s %s' % (shown(verb), shown(resource))
+    if where != '-':
+        text += ('' if group == '-' else '.' + shown(group)) + ('' if name == '*' else ' named ' + shown(name))
+    return text
 
 
-def locations_of(sides: list[Side], at: int, binding: str) -> tuple[dict[str, Any], dict[str, Any] | None]:
-    """Where a change is shown, and what stands beside it: a binding and its role. The role comes first if the binding is
-    the same on both sides and the role is not, or if only the role is in a file. Both are objects of this side of the
-    change, unless only the other side has them in files."""
-    if not sides[at].has_in_file(binding) and sides[1 - at].has_in_file(binding):
-        at = 1 - at
-    side = sides[at]
+def locations_of(sides: list[Side], at: int, binding: str) -> tuple[Part, Part | None]:
+    """Where a change is shown, and what stands beside it: a binding and its role. The role comes first if the binding is the same on
+    both sides and the role is not, or if only the role is in a file. Both are objects of this side of the change, unless only the
+    other side has them in files."""
+    side = sides[at] if sides[at].has_in_file(binding) or not sides[1 - at].has_in_file(binding) else sides[1 - at]
     role = side.role(binding)
     if not side.source(role):
         return side.location(binding), None
@@ -247,4 +218,5 @@ def locations_of(sides: list[Side], at: int, binding: str) -> tuple[dict[str, An
 
 def is_same(sides: list[Side], key: str) -> bool:
     """Whether manifests have the object on both sides, and have it in the same way."""
-    return all(side.origins.get(key) for side in sides) and sides[0].items[key] == sides[1].items[key]
+    found = [side.objects.get(key, ({}, '')) for side in sides]
+    return bool(found[0][1] and found[1][1]) and found[0][0] == found[1][0]

@@ -9,17 +9,17 @@ if TYPE_CHECKING:
     from .answer import Asking
     from .processes import Done
 
-GRANTED = 'the cluster grants what is written in them, and %s what they gather'
-# What may differ in the cluster, by the command, with the fields of a line that tell whether it does, by their number:
-# the others say where a rule is written.
-DIFFERS = {
-    'who-can': 'other holders', 'rules': 'other rules', 'powers': 'other powers', 'paths': 'other paths'}
+GATHERED = 'the cluster grants what is written in them, and %s what they gather'
+MADE = ('this change makes stale aggregates (L6 of lint): %s; a cluster grants what is written in them, for ever if they select '
+        'each other, and these lines have what they gather')
+DIFFERS = {'who-can': 'holders', 'rules': 'rules', 'powers': 'powers', 'paths': 'paths'}
+# The fields of a line that tell something, by their number: the others say where a rule is written.
 TELLING = {8: (0, 1, 2), 10: (0, 5, 6, 7, 8, 9), 11: (0, 1, 2, 3, 4, 5)}
 
 
-def rows_of(findings: str) -> list[list[str]]:
+def rows_of(text: str) -> list[list[str]]:
     """The lines of an answer, each as its fields."""
-    return [line.split('\t') for line in findings.split('\n') if line]
+    return [line.split('\t') for line in text.split('\n') if line]
 
 
 def roles_in(findings: str) -> list[str]:
@@ -30,60 +30,57 @@ def roles_in(findings: str) -> list[str]:
 
 
 def stale_in(findings: str) -> str:
-    """The same, as messages list them."""
+    """The same in a message."""
     return ', '.join(roles_in(findings))
 
 
-def find_stale(asking: Asking) -> str:
-    """The stale aggregates of an export, as messages list them."""
-    return ', '.join(roles_of(asking))
-
-
-def roles_of(asking: Asking, *more: str) -> list[str]:
-    """The stale aggregates of an export, with a file of more objects."""
-    if not asking.files('cluster.json') and not more:
-        return []
+def find_roles(asking: Asking, *more: str) -> list[str]:
+    """The stale aggregates of an export, with files of more objects."""
     files = [*asking.files('cluster.json', 'namespaced.json'), *more]
-    return roles_in(asking.session.capture(['rbacaudit', 'lint', '--only=L2,L6', *files]).out)
+    is_needed = more or asking.files('cluster.json')
+    return roles_in(asking.session.capture(['rbacaudit', 'lint', '--only=L2,L6', *files]).out) if is_needed else []
 
 
-def remark_on_side(asking: Asking) -> None:
+def find_stale(asking: Asking) -> str:
+    """The stale aggregates of an export, in a message."""
+    return ', '.join(find_roles(asking))
+
+
+def remark_on_side(asking: Asking) -> list[str]:
     """Reports the stale aggregates of an export that diff compares."""
-    stale = find_stale(asking)
-    if stale and asking.export:
-        asking.session.report('stale aggregates (L6 of lint) in %s: %s; %s' % (
-            asking.export.named, stale, GRANTED % 'these lines have'))
+    roles = find_roles(asking)
+    if roles and asking.export:
+        said = asking.export.named, ', '.join(roles), GATHERED % 'these lines have'
+        asking.session.report('stale aggregates (L6 of lint) in %s: %s; %s' % said)
+    return roles
 
 
-def remark_on_change(asking: Asking, change: str) -> None:
+def remark_on_change(asking: Asking, change: str, before: list[str]) -> None:
     """Reports the aggregated roles that what a change puts makes stale, or takes into use."""
-    before = roles_of(asking)
-    stale = ', '.join(role for role in roles_of(asking, change) if role not in before)
-    if stale:
-        asking.session.report(
-            'this change makes stale aggregates (L6 of lint): %s; a cluster grants what is written in them, for ever if they '
-            'select each other, and these lines have what they gather' % stale)
+    roles = [role for role in find_roles(asking, change) if role not in before]
+    if roles:
+        asking.session.report(MADE % ', '.join(roles))
 
 
 def remark_on_stale(asking: Asking, stale: str, line: list[str], files: list[str], answer: Done) -> None:
     """Asks again as a cluster decides, by the rules that are written in aggregated roles, and says what it answers."""
     session, command = asking.session, asking.question.command
     if command == 'matrix':
-        session.report('stale aggregates (L6 of lint): %s; %s' % (stale, GRANTED % 'this matrix has'))
+        session.report('stale aggregates (L6 of lint): %s; %s' % (stale, GATHERED % 'this matrix has'))
         return
-    # (no other object has the field; a text that looks like it has a backslash before its last quote; a later document
-    # replaces an earlier one)
-    text = (read_text(asking.files('cluster.json')[0]) or '').replace('"aggregationRule":', '"was":')
+    # (no other object has the field, and a text that looks like it has a backslash before its last quote; of documents that
+    # have an object, the last counts)
+    text = read_text(asking.files('cluster.json')[0]).replace('"aggregationRule":', '"was":')
     written = session.capture(['rbacaudit', *line, session.write('as-written.json', text)])
     differs = ''
     if command == 'can-i' and {answer.status, written.status} == {0, 1}:
         differs = 'answers no' if written.status else 'answers yes'
-    elif command in DIFFERS and not answer.status and not written.status and telling(answer.out) != telling(written.out):
-        differs = 'has ' + ('other paths' if asking.question.indirect else DIFFERS[command])
+    elif command in DIFFERS and not answer.status and not written.status and telling(answer) != telling(written):
+        differs = 'has other ' + ('paths' if asking.question.indirect else DIFFERS[command])
     if differs:
         session.report('the cluster %s now, because of stale aggregates (L6 of lint): %s' % (differs, stale))
 
 
-def telling(answer: str) -> set[tuple[str, ...]]:
+def telling(answer: Done) -> set[tuple[str, ...]]:
     """What an answer says, wherever a rule is written."""
-    return {tuple(row[at] for at in TELLING.get(len(row), (0,))) for row in rows_of(answer)}
+    return {tuple(row[at] for at in TELLING.get(len(row), (0,))) for row in rows_of(answer.out)}

@@ -2,8 +2,6 @@
 
 from __future__ import annotations
 
-from dataclasses import dataclass, field
-
 from .escapes import bytes_of
 from .fields import STEP_NAMES, powers_of
 
@@ -12,42 +10,35 @@ if TYPE_CHECKING:
     from collections.abc import Iterable, Sequence
 
 
-@dataclass
 class Tally:
     """How many permissions are gained and lost, and the powers among them."""
 
-    gained: int = 0
-    lost: int = 0
-    powers_gained: set[str] = field(default_factory=set)
-    powers_lost: set[str] = field(default_factory=set)
+    def __init__(self) -> None:
+        self.counts = {'+': 0, '-': 0}
+        self.powers: dict[str, set[str]] = {'+': set(), '-': set()}
 
     def take(self, cells: Sequence[str]) -> None:
         """Counts a line of diff."""
-        if cells[0] == '+':
-            self.gained += 1
-            self.powers_gained.update(powers_of('diff', cells))
-        else:
-            self.lost += 1
-            self.powers_lost.update(powers_of('diff', cells))
+        self.counts[cells[0]] += 1
+        self.powers[cells[0]].update(powers_of('diff', cells))
 
     def line(self, *about: str) -> str:
-        """The line of it."""
-        powers = ('[%s]' % ','.join(name for name in STEP_NAMES if name in some) for some in (
-            self.powers_gained, self.powers_lost))
-        return '\t'.join((*about, str(self.gained), str(self.lost), *powers)) + '\n'
+        """The line with all of it."""
+        powers = ('[%s]' % ','.join(name for name in STEP_NAMES if name in some) for some in self.powers.values())
+        return '\t'.join((*about, *map(str, self.counts.values()), *powers)) + '\n'
 
     def status(self, fails_on: str) -> int:
         """The status by the word after --fail-on."""
-        return int(bool({'gains': self.gained, 'powers': self.powers_gained}.get(fails_on, self.gained or self.lost)))
+        counted = {'gains': self.counts['+'], 'powers': len(self.powers['+'])}
+        return int(counted.get(fails_on, sum(self.counts.values())) > 0)
 
 
-def summarize(lines: Iterable[str]) -> tuple[str, Tally]:
-    """A line for each who, where and binding of lines of diff and one for all; and the latter's numbers."""
+def summarize(rows: Iterable[Sequence[str]]) -> tuple[str, Tally]:
+    """A line for each who, where and binding of lines of diff, and one for all; and the latter's counts."""
     total = Tally()
     tallies: dict[tuple[str, str, str], Tally] = {}
-    for line in lines:
-        cells = line.split('\t')
+    for cells in rows:
         total.take(cells)
         tallies.setdefault((cells[1], cells[2], cells[7]), Tally()).take(cells)
-    summary = sorted((tally.line(*about) for about, tally in tallies.items()), key=bytes_of)
-    return ''.join(summary) + total.line('total', '-', '-'), total
+    lines = sorted((tally.line(*about) for about, tally in tallies.items()), key=bytes_of)
+    return ''.join(lines) + total.line('total', '-', '-'), total
