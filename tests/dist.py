@@ -428,7 +428,7 @@ def krew(room):
 CURL = """#!/bin/sh
 [ "$*" = "-fsSLo rbacaudit.tar.gz https://downloads.example.com/%s" ] && cp '%s' rbacaudit.tar.gz
 """
-JOB_TOOLS = 'bash', 'git', 'comm', 'wc'
+JOB_TOOLS = 'bash', 'comm', 'git', 'sed', 'wc'
 NEW = """### Gained: 10. Lost: 0. New findings: 2.
 
     +\tu:system:serviceaccount:ci:deploy-checkout\tcheckout\tget\t-\tsecrets\t*\tRoleBinding/checkout/ci-deploys
@@ -556,7 +556,7 @@ case $1 in
     patch) shift 7; exec '%s' '%s' "$@" ;;
 esac
 ''' % (sys.executable, LOCAL_KUBECTL)
-MANIFEST_TOOLS = 'bash', 'cut', 'env', 'fold', 'git', 'grep', 'wc', *PLUGIN_TOOLS
+MANIFEST_TOOLS = 'bash', 'cut', 'env', 'fold', 'git', 'grep', 'sed', 'wc', *PLUGIN_TOOLS
 MORE = '+\tu:system:serviceaccount:shop:ci\tshop\tget\t-\tsecrets\t*\tRoleBinding/shop/ci-deploys\n'
 LESS = ''.join('-\tg:shop-support\tshop\tget\t-\t%s\t*\tRoleBinding/shop/support\n' % type_ for type_ in ('pods', 'pods/log'))
 # What the script of both jobs adds to a pull request.
