@@ -1,14 +1,15 @@
 """kubectl rbacaudit: exports what rbacaudit reads from a cluster, and asks rbacaudit about it.
 
-kubectl is called with `get`, `config view` and `patch --local`, which reads manifests without a cluster. No answer depends on a
-document that is taken apart here, but for the namespace that -n adds to manifests: where types matter, rbacaudit itself lists
-them and says which a word means, so no label and no name can mislead.
+kubectl is called with `get`, `config view` and `patch --local`, which reads manifests without a cluster. No answer depends on a document
+that is taken apart here, but for the namespace that -n adds to manifests: where types matter, rbacaudit itself lists them and says which
+a word means, so no label and no name can mislead.
 """
 
 from __future__ import annotations
 
 import os
 import sys
+from importlib import import_module
 
 from . import VERSION
 from .errors import Ended, Refused
@@ -16,35 +17,18 @@ from .options import COMMANDS
 from .processes import Session, Signalled, hold_files
 from .terminal import print_text
 
-QUESTIONS = ('can-i', 'who-can', 'rules', 'matrix', 'powers', 'paths', 'lint')
-
-
-def run_command(session: Session, command: str, words: list[str]) -> int:
-    """Runs a command; its status. Each has a module of its own, which nothing else waits for."""
-    if command in QUESTIONS:
-        from .question import question_command
-        return question_command(session, command, words)
-    if command == 'export':
-        from .export import export_command
-        return export_command(session, words)
-    if command == 'diff':
-        from .changes import diff_command
-        return diff_command(session, words)
-    if command == 'read':
-        from .manifests import read_command
-        return read_command(session, words)
-    if command == 'universe':
-        from .listed import universe_command
-        return universe_command(session, words)
-    from .page_command import page_command
-    return page_command(session, words)
+# The module of each command, which nothing else waits for; the others are questions.
+MODULES = {'export': 'export', 'diff': 'changes', 'read': 'manifests', 'universe': 'listed', 'page': 'page_command'}
 
 
 def run_words(session: Session, words: list[str]) -> int:
-    """What stands in the place of a command."""
+    """Runs a command, or what stands in its place; the status."""
     first = words[0] if words else ''
+    if first in MODULES:
+        return int(getattr(import_module('.' + MODULES[first], __package__), first + '_command')(session, words[1:]))
     if first in COMMANDS:
-        return run_command(session, first, words[1:])
+        from .question import question_command
+        return question_command(session, first, words[1:])
     if first in ('-h', '--help'):
         from .help import help_of
         print_text(help_of(''))
@@ -53,9 +37,7 @@ def run_words(session: Session, words: list[str]) -> int:
         print_text('kubectl-rbacaudit %s\n' % VERSION)
         session.need_rbacaudit()
         return session.run(['rbacaudit', '--version'])
-    if not first:
-        raise Refused('a command is missing; kubectl rbacaudit --help lists them')
-    raise Refused('there is no command %s; kubectl rbacaudit --help lists them' % first)
+    raise Refused(('there is no command %s' % first if first else 'a command is missing') + '; kubectl rbacaudit --help lists them')
 
 
 def main(words: list[str], beside: str) -> int:
@@ -67,14 +49,13 @@ def main(words: list[str], beside: str) -> int:
                 return run_words(session, words)
             except Refused as refused:
                 session.report(str(refused))
-                return 2
             except Ended as ended:
                 return ended.status
             except BrokenPipeError:
                 return 141
             except OSError as fault:
-                session.report("can't write to standard output: %s" % fault.strerror if fault.filename is None else str(fault))
-                return 2
+                session.report(str(fault) if fault.filename else "can't write to standard output: %s" % fault.strerror)
+            return 2
     except Signalled as signalled:
         return signalled.status
 

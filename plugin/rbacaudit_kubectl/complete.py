@@ -10,7 +10,7 @@ from .fields import STEP_NAMES
 from .options import COMMANDS, VALUES, Option, formats_of
 
 FILES, NOTHING, FOLDERS = ':0', ':4', ':16'
-VERBS = ('get', 'list', 'watch', 'create', 'update', 'patch', 'delete', 'deletecollection', 'use', 'bind', 'escalate', 'impersonate')
+VERBS = ('get', 'list', 'watch', 'create', 'update', 'patch', 'delete', 'deletecollection', 'use', 'bind', 'escalate', 'impersonate', NOTHING)
 PLACES = {'VERB': VERBS, 'FILE': (FILES,), 'DIR': (FOLDERS,)}
 OF_FILES = ('--kubeconfig', '--diff', '--with', '--without', '--from', '--to')
 
@@ -21,31 +21,26 @@ class Line:
     def __init__(self, command: str) -> None:
         self.command = command
         self.options = COMMANDS[command].options if command in COMMANDS else ()
+        self.places = COMMANDS[command].places.split() if command in COMMANDS else []
         self.awaits: Option | None = None   # the option whose value comes next
         self.given: list[Option] = []
         self.literal = False
-        self.places = 0
 
     def read(self, word: str) -> None:
+        """Reads a word; letters such as those of -qA, -n, -nshop or -ojson."""
         if self.awaits:
             self.awaits = None
         elif self.literal or not word.startswith('-') or word == '-':
-            self.places += 1
-        elif word == '--':
-            self.literal = True
+            self.places = self.places[1:] if self.places != ['FILE'] else self.places
         elif word.startswith('--'):
             name, equals, _ = word.partition('=')
+            self.literal = word == '--'
             self._take(name, bool(equals))
         else:
-            self._read_letters(word[1:])
-
-    def _read_letters(self, letters: str) -> None:
-        """Reads letters such as those of -qA, -n, -nshop or -ojson."""
-        for at, letter in enumerate(letters, 1):
-            has_value = letter in 'no'
-            self._take('-' + letter, has_value and at < len(letters))
-            if has_value:
-                return
+            for at, letter in enumerate(word[1:], 2):
+                self._take('-' + letter, letter in 'no' and at < len(word))
+                if letter in 'no':
+                    break
 
     def _take(self, name: str, has_value: bool) -> None:
         option = self.option(name)
@@ -54,14 +49,15 @@ class Line:
             self.awaits = option if option.value and not has_value else None
 
     def option(self, name: str) -> Option | None:
+        """The option of this spelling."""
         return next((option for option in self.options if name in option.spellings), None)
 
     def offers(self, typed: str) -> Iterator[str]:
         """What may stand next, and what else."""
+        option = self.option(typed.partition('=')[0])
         if self.awaits:
             yield from self._values(self.awaits)
         elif not self.literal and typed.startswith('--') and '=' in typed:
-            option = self.option(typed.partition('=')[0])
             yield from self._values(option) if option and option.value else (NOTHING,)
         elif not self.literal and typed.startswith('-'):
             for option in self.options:
@@ -70,28 +66,22 @@ class Line:
                     yield from option.spellings
             yield NOTHING
         else:
-            places = COMMANDS[self.command].places.split() if self.command in COMMANDS else []
-            is_more = bool(places) and places[-1] == 'FILE'
-            place = places[min(self.places, len(places) - 1)] if self.places < len(places) or is_more else ''
-            yield from PLACES.get(place, ())
-            if place not in ('FILE', 'DIR'):
-                yield NOTHING
+            yield from PLACES.get(''.join(self.places[:1]), (NOTHING,))
 
     def _values(self, option: Option) -> Iterator[str]:
         """What may be the value of an option. (page writes --output FILE)"""
-        name = option.long
-        if name in OF_FILES or (name == '--output' and option.value == 'FILE'):
+        if option.long in OF_FILES or (option.long, option.value) == ('--output', 'FILE'):
             yield FILES
-        elif name == '--export':
+        elif option.long == '--export':
             yield FOLDERS
         else:
-            if name == '--context':
-                yield from contexts()
-            yield from {**VALUES, '--output': formats_of(self.command), '--steps': STEP_NAMES}.get(name, ())
+            yield from contexts() if option.long == '--context' else ()
+            yield from {**VALUES, '--output': formats_of(self.command), '--steps': STEP_NAMES}.get(option.long, ())
             yield NOTHING
 
 
 def contexts() -> list[str]:
+    """The contexts that kubectl knows."""
     try:
         said = subprocess.run(['kubectl', 'config', 'get-contexts', '-o', 'name'], stdout=subprocess.PIPE, stderr=subprocess.DEVNULL, check=False)
     except OSError:
@@ -107,11 +97,10 @@ def main(words: list[str]) -> int:
         for word in before[1:]:
             line.read(word)
         found = [*line.offers(typed)]
+        typed = typed.partition('=')[2] if typed.startswith('--') and '=' in typed and not line.literal else typed
     else:
-        found = ['-h', '--help', '-V', '--version', NOTHING] if typed.startswith('-') else [
-            *('%s\t%s' % (name, command.text) for name, command in COMMANDS.items()), NOTHING]
-    begin = typed.partition('=')[2] if typed.startswith('--') and '=' in typed and before and not line.literal else typed
-    for one in found:
-        if one[0] == ':' or one.startswith(begin):
-            os.write(1, (one + '\n').encode('utf-8', 'surrogateescape'))
+        found = [*('%s\t%s' % (name, it.text) for name, it in COMMANDS.items()), NOTHING]
+        found = ['-h', '--help', '-V', '--version', NOTHING] if typed.startswith('-') else found
+    text = ''.join(one + '\n' for one in found if one[0] == ':' or one.startswith(typed))
+    os.write(1, text.encode('utf-8', 'surrogateescape'))
     return 0

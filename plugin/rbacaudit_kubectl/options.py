@@ -3,18 +3,18 @@
 from __future__ import annotations
 
 from collections.abc import Iterator
-from dataclasses import dataclass, field
+from dataclasses import dataclass
 
-from .errors import Refused
-from .terminal import is_terminal
+from .errors import Ended, Refused
+from .terminal import is_terminal, print_text
 
 
 @dataclass(frozen=True)
 class Option:
-    """An option: its spellings, what its value is called, the field that it sets, what it does."""
+    """An option: its spellings, what its value is called, the field of Options that it sets (one of rbacaudit's own has none), what it does."""
     names: str
     value: str = ''
-    field: str = ''      # of Options; one of rbacaudit's own has none
+    field: str = ''
     text: str = ''
     repeats: bool = False
 
@@ -30,113 +30,96 @@ class Option:
 AS_KUBECTL = 'as in kubectl'
 TARGETS = (Option('--context', 'NAME', 'context', AS_KUBECTL), Option('--kubeconfig', 'FILE', 'kubeconfig', AS_KUBECTL),
            Option('--request-timeout', 'TIME', 'timeout', AS_KUBECTL))
-HELP = (Option('-h,--help', '', 'help', 'print help'),)
 OWN = (Option('--export', 'DIR', 'exports', 'answer from the export in DIR, without a cluster', True),
        Option('--partial', '', 'partial', 'answer although a part of the export is missing'), *TARGETS)
-SHOWN = (Option('-o,--output', 'FORMAT', 'format',
-                'table (on a terminal), wide, json, name, tsv: plain lines (elsewhere); lint, diff: sarif'),
+SHOWN = (Option('-o,--output', 'FORMAT', 'format', 'table (on a terminal), wide, json, name, tsv: plain lines (elsewhere); lint, diff: sarif'),
          Option('--no-headers', '', 'headless', 'a table without its head'),
          Option('--color', 'WHEN', 'color', 'with colors: auto, always or never (rbacaudit-show --help)'))
-OF_DIFF = (Option('--with', 'PATH', 'with_', 'manifests whose objects are added to the export, or replace its objects'),
-           Option('--without', 'PATH', 'without',
-                  'manifests whose objects are first removed from the export, by kind, namespace and name'),
-           Option('--from', 'PATH', 'before', 'the manifests before the change; with --export, the same as --without'),
-           Option('--to', 'PATH', 'after', 'the manifests after the change; with --export, the same as --with'),
-           Option('-n,--namespace', 'NS', 'namespace',
-                  'the namespace for roles and bindings of manifests that have none (default: default)'),
-           Option('--summary', '', 'summary', 'counts instead of lines: the permissions gained and lost for each who, where and binding, '
-                  'the powers among them, which are ways to take over somebody else, and a total'),
-           Option('--fail-on', 'WHAT', 'fail_on', 'end with status 1 for changes (default), only for gains, or only for powers that are gained'))
+OF_DIFF = (
+    Option('--with', 'PATH', 'with_', 'manifests whose objects are added to the export, or replace its objects'),
+    Option('--without', 'PATH', 'without', 'manifests whose objects are first removed from the export, by kind, namespace and name'),
+    Option('--from', 'PATH', 'before', 'the manifests before the change; with --export, the same as --without'),
+    Option('--to', 'PATH', 'after', 'the manifests after the change; with --export, the same as --with'),
+    Option('-n,--namespace', 'NS', 'namespace', 'the namespace for roles and bindings of manifests that have none (default: default)'),
+    Option('--summary', '', 'summary', 'counts instead of lines: the permissions gained and lost for each who, where and binding, the powers '
+           'among them, which are ways to take over somebody else, and a total'),
+    Option('--fail-on', 'WHAT', 'fail_on', 'end with status 1 for changes (default), only for gains, or only for powers that are gained'))
 OF_READ = (Option('-n,--namespace', 'NS', 'namespace', 'put the roles and bindings that have no namespace into NS'),)
-OF_PAGE = (Option('-n,--namespace', 'NS', 'namespace', 'the page of one namespace: its rows, and those of the whole cluster'),
-           Option('--output', 'FILE', 'output', 'write the page into this file, whole or not at all; without it the page goes to standard output'),
-           Option('--title', 'TEXT', 'title', 'the title of the page'),
-           Option('--diff', 'FILE', 'diff', 'changes to show with the rows: lines of rbacaudit diff'),
-           Option('--every', '', 'every', 'a row for every binding that grants a request, not only for the first'))
-OF_EXPORT = (Option('--force', '', 'force', 'replace all files of an export that DIR holds; other files in DIR stay'),
-             Option('-n,--namespace', 'NS', 'namespace', 'read only the namespace NS: use this if you may read no other'), *TARGETS,
-             Option('--as', 'USER', 'as_user', AS_KUBECTL), Option('--as-group', 'GROUP', 'as_groups', AS_KUBECTL, True))
+OF_PAGE = (
+    Option('-n,--namespace', 'NS', 'namespace', 'the page of one namespace: its rows, and those of the whole cluster'),
+    Option('--output', 'FILE', 'output', 'write the page into this file, whole or not at all; without it the page goes to standard output'),
+    Option('--title', 'TEXT', 'title', 'the title of the page'),
+    Option('--diff', 'FILE', 'diff', 'changes to show with the rows: lines of rbacaudit diff'),
+    Option('--every', '', 'every', 'a row for every binding that grants a request, not only for the first'))
+OF_EXPORT = (
+    Option('--force', '', 'force', 'replace all files of an export that DIR holds; other files in DIR stay'),
+    Option('-n,--namespace', 'NS', 'namespace', 'read only the namespace NS: use this if you may read no other'), *TARGETS,
+    Option('--as', 'USER', 'as_user', AS_KUBECTL), Option('--as-group', 'GROUP', 'as_groups', AS_KUBECTL, True))
 # rbacaudit's own, which the plugin passes on: their values have to be known for what they are.
 PASSED = {option.long: option for option in (
     Option('--as', 'USER'), Option('--groups', 'A,B'), Option('--group', 'G', repeats=True), Option('-n,--namespace', 'NS'),
     Option('-A,--all-namespaces'), Option('--in-namespace'), Option('--subresource', 'S'), Option('-q,--quiet'), Option('--why'),
     Option('--anywhere'), Option('--any-name'), Option('--every'), Option('--indirect'), Option('--steps', 'STEPS'), Option('--once'),
     Option('--after', 'TOKEN'), Option('--limit', 'N'), Option('--only', 'CODES'), Option('--skip-system'))}
-SCOPE = '--namespace --all-namespaces --in-namespace --subresource'
+SCOPE = '--namespace --all-namespaces --in-namespace --subresource '
 
 
 @dataclass(frozen=True)
 class Command:
-    """A command: what it does, its places (of which FILE stands for any number), and its options."""
+    """A command: how it is written and what it does, for help; that for completions; its places, of which FILE stands for any number;
+    and its options."""
+    usage: str
+    help: str
     text: str
-    places: str
+    places: str = ''
     passed: str = ''
     own: tuple[Option, ...] = OWN + SHOWN
 
     @property
     def options(self) -> tuple[Option, ...]:
-        return tuple(PASSED[name] for name in self.passed.split()) + self.own + HELP
+        return (*(PASSED[name] for name in self.passed.split()), *self.own, Option('-h,--help', '', 'help'))
 
 
 COMMANDS: dict[str, Command] = {
-    'can-i': Command('Check whether USER may VERB TARGET', 'VERB TARGET FILE', '--as --groups --group ' + SCOPE + ' --quiet --why'),
-    'who-can': Command('List who may VERB TARGET', 'VERB TARGET FILE',
-                       SCOPE + ' --anywhere --any-name --every --why --indirect --steps'),
-    'rules': Command('List the rules that WHO has', 'WHO FILE', '--groups --group --namespace --all-namespaces'),
-    'matrix': Command('List everything that anyone may do', 'FILE', '--every --once --after --limit'),
-    'powers': Command('List who can act as others or gain permissions', 'FILE'),
-    'paths': Command('List whom and what WHO can take over', 'WHO FILE', '--groups --group --steps'),
-    'lint': Command('List what looks wrong with roles, bindings and other objects', 'FILE', '--only --skip-system'),
-    'diff': Command('List the permissions that a change gives or takes away', '', '', OF_DIFF + OWN + SHOWN),
-    'read': Command('Print manifests as one List in JSON', 'FILE', '', OF_READ),
-    'universe': Command('Print a Universe document to start from', '', '', OWN),
-    'page': Command('Write all of it as one HTML file, to look at', 'FILE', '', OF_PAGE + OWN),
-    'export': Command('Write what rbacaudit reads into a folder', 'DIR', '', OF_EXPORT)}
+    'can-i': Command('--as USER [-n NS] VERB TARGET', 'may USER do that: yes (exit status 0) or no (1)', 'Check whether USER may VERB TARGET',
+                     'VERB TARGET FILE', '--as --groups --group --quiet --why ' + SCOPE),
+    'who-can': Command('[-n NS] VERB TARGET', 'who may do that; with --indirect, by taking over others too', 'List who may VERB TARGET',
+                       'VERB TARGET FILE', SCOPE + '--anywhere --any-name --every --why --indirect --steps'),
+    'rules': Command('[-n NS] WHO', 'which rules the user u:NAME or the group g:NAME has', 'List the rules that WHO has',
+                     'WHO FILE', '--groups --group --namespace --all-namespaces'),
+    'matrix': Command('[FILE]..', 'everything that anyone may do', 'List everything that anyone may do', 'FILE', '--every --once --after --limit'),
+    'powers': Command('[FILE]..', 'who can act as others or gain permissions', 'List who can act as others or gain permissions', 'FILE'),
+    'paths': Command('WHO', 'whom and what u:NAME or g:NAME can take over, step by step', 'List whom and what WHO can take over',
+                     'WHO FILE', '--groups --group --steps'),
+    'lint': Command('[PATH]..', 'what looks wrong with roles and bindings: status 1 if any', 'List what looks wrong with roles, bindings and other objects',
+                    'FILE', '--only --skip-system'),
+    'diff': Command('--export OLD --export NEW', 'permissions gained and lost: status 1 if any (diff --help)',
+                    'List the permissions that a change gives or takes away', own=OF_DIFF + OWN + SHOWN),
+    'read': Command('PATH..', 'manifests as JSON, for rbacaudit (read --help)', 'Print manifests as one List in JSON', 'FILE', own=OF_READ),
+    'universe': Command('', 'a Universe document to start from, for matrix', 'Print a Universe document to start from', own=OWN),
+    'page': Command('--output access.html', 'all of it as a page for a browser (page --help)', 'Write all of it as one HTML file, to look at',
+                    'FILE', own=OF_PAGE + OWN),
+    'export': Command('DIR', 'keep the files, for many questions (export --help)', 'Write what rbacaudit reads into a folder', 'DIR', own=OF_EXPORT)}
 FORMATS = ('table', 'wide', 'json', 'name', 'tsv')
 VALUES = {'--color': ('auto', 'always', 'never'), '--fail-on': ('changes', 'gains', 'powers')}
 PATHS = ('--with', '--without', '--from', '--to')
 
 
-@dataclass
 class Options:
-    """What the plugin's own options say; the other words are paths, or the name of a folder."""
-    command: str = ''
-    exports: list[str] = field(default_factory=list)
-    partial: bool = False
-    context: str = ''
-    kubeconfig: str = ''
-    timeout: str = ''
-    namespace: str = ''
-    as_user: str = ''
-    as_groups: list[str] = field(default_factory=list)
-    force: bool = False
-    title: str = ''
-    diff: str = ''
-    output: str = ''
-    every: bool = False
-    format: str = ''
-    headless: bool = False
-    color: str = ''
-    summary: bool = False
-    fail_on: str = ''
-    with_: str = ''
-    without: str = ''
-    before: str = ''
-    after: str = ''
-    help: bool = False
-    paths: list[str] = field(default_factory=list)
-    awaits: str = ''     # the last word, if it is an option that needs a value
+    """What the plugin's own options say, by the fields of the table; `paths` are the other words."""
+
+    def __init__(self, command: str = '') -> None:
+        self.command, self.paths, self.exports, self.as_groups = command, list[str](), list[str](), list[str]()
+        self.context = self.kubeconfig = self.timeout = self.namespace = self.as_user = self.title = self.diff = self.output = ''
+        self.format = self.color = self.fail_on = self.with_ = self.without = self.before = self.after = ''
+        self.partial = self.force = self.every = self.headless = self.summary = self.help = False
+        self.awaits = ''    # the last word, if it is an option that needs a value
 
     @property
     def export(self) -> str:
         return self.exports[0] if self.exports else ''
 
-    @property
-    def headers(self) -> bool:
-        return not self.headless
-
     def check_end(self) -> None:
-        """Refuses an option without its value."""
         if self.awaits:
             raise Refused('%s needs a value' % self.awaits)
 
@@ -160,16 +143,18 @@ class Reader:
         self._awaited = Option('')
 
     def takes(self, word: str) -> bool:
-        """Takes a word that is an option, or the value of one."""
-        if self.options.awaits:
-            self._take_next(word)
+        """Takes a word that is an option, or the value of one. A value that begins with a dash is an option: the value was forgotten."""
+        awaits, self.options.awaits = self.options.awaits, ''
+        if awaits:
+            if word.startswith('-') and not (word == '-' and awaits in PATHS):
+                raise Refused('%s needs a value; if %s is the value, write %s=%s' % (awaits, word, awaits, word))
+            self._set(self._awaited, awaits, word)
             return True
         name, equals, value = word.partition('=')
-        option = self._known.get(name)
         if word[:1] == '-' != word[1:2] and word[2:]:
             # (-nshop and -n=shop)
-            name, value = word[:2], word[3:] if word[2] == '=' else word[2:]
-            option, equals = self._known.get(name), '='
+            name, equals, value = word[:2], '=', word[3:] if word[2] == '=' else word[2:]
+        option = self._known.get(name)
         if option is None or (equals and not option.value):
             return False
         # (--output is called -o in what is said of it)
@@ -182,19 +167,12 @@ class Reader:
             setattr(self.options, option.field, True)
         return True
 
-    def _take_next(self, word: str) -> None:
-        """A value that begins with a dash is an option, and the value was forgotten."""
-        told, self.options.awaits = self.options.awaits, ''
-        if word.startswith('-') and not (word == '-' and told in PATHS):
-            raise Refused('%s needs a value; if %s is the value, write %s=%s' % (told, word, told, word))
-        self._set(self._awaited, told, word)
-
     def _set(self, option: Option, told: str, value: str) -> None:
         """An empty value is refused: from an unset variable, it would ask another cluster than was meant."""
-        if not value:
-            raise Refused('%s needs a value' % told)
         given = getattr(self.options, option.field)
         takes_two = told == '--export' and self.options.command == 'diff'
+        if not value:
+            raise Refused('%s needs a value' % told)
         if takes_two and len(given) == 2:
             raise Refused('diff takes two exports, and --export is given three times')
         if given and not takes_two and told not in ('--color', '--as-group'):
@@ -203,49 +181,46 @@ class Reader:
             raise Refused('there is no color %s: --color takes auto, always or never' % value)
         if told == '--fail-on' and value not in VALUES[told]:
             raise Refused("diff can't fail on %s: --fail-on takes changes, gains or powers" % value)
-        if told in PATHS:
-            value = manifest_path(value)
-        elif told == '--export':
-            value = safe_path(value)
+        if told in (*PATHS, '--export'):
+            value = safe_path(value) if told == '--export' else manifest_path(value)
         setattr(self.options, option.field, [*given, value] if option.repeats else value)
 
 
 def read_options(command: str, words: list[str]) -> Options:
-    """Reads the words of a command whose options are all the plugin's own."""
+    """Reads the words of a command whose options are all the plugin's own; help ends the run."""
     reader, literal = Reader(command), False
-    options = reader.options
     for word in words:
-        if options.awaits or not literal:
+        if reader.options.awaits or not literal:
             if reader.takes(word):
                 continue
             if command == 'page' and word == '--':
                 literal = True
                 continue
             if not COMMANDS[command].places or (word.startswith('-') and word != '-'):
-                raise Refused('%s has no %s; kubectl rbacaudit%s --help lists its options'
-                              % (command, word, '' if command == 'universe' else ' ' + command))
-        options.paths.append(manifest_path(word) if command == 'read' else word)
-    return options
+                of = '' if command == 'universe' else ' ' + command
+                raise Refused('%s has no %s; kubectl rbacaudit%s --help lists its options' % (command, word, of))
+        reader.options.paths.append(manifest_path(word) if command == 'read' else word)
+    if reader.options.help:
+        from .help import help_of
+        print_text(help_of(command))
+        raise Ended(0)
+    return reader.options
 
 
 def formats_of(command: str) -> tuple[str, ...]:
     return FORMATS + ('sarif',) if command in ('lint', 'diff') else FORMATS
 
 
-def choose_format(options: Options, said_of: str = '') -> None:
+def choose_format(options: Options, said_of: str) -> None:
     """Checks the format, before anything is read. Without -o it is a table on a terminal."""
-    said_of = said_of or options.command
-    if not options.format:
-        options.format = 'table' if is_terminal(1) else 'tsv'
-    known = formats_of(said_of)
+    options.format, known = options.format or ('table' if is_terminal(1) else 'tsv'), formats_of(said_of)
     if options.format not in known:
         raise Refused('%s has no format %s: -o takes %s or %s' % (said_of, options.format, ', '.join(known[:-1]), known[-1]))
 
 
 def described(options: tuple[Option, ...], width: int, most: int = 116) -> Iterator[str]:
     """Lines of help on options; what several do alike stands once."""
-    texts = dict.fromkeys(option.text for option in options)
-    for text in texts:
+    for text in dict.fromkeys(option.text for option in options):
         names = ', '.join(('%s %s' % (option.spellings[0], option.value)).strip() for option in options if option.text == text)
         line = ('  ' + names).ljust(width - 2) + ' '
         for word in text.split():

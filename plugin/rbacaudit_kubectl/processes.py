@@ -7,15 +7,15 @@ import signal
 import subprocess
 import sys
 from collections.abc import Callable, Sequence
+from contextlib import suppress
 from dataclasses import dataclass
-from types import FrameType, TracebackType
+from types import FrameType
 
 from .errors import Refused
 from .escapes import bytes_of, text_of
 from .terminal import Progress, report, say
 
 ENDING = (signal.SIGHUP, signal.SIGINT, signal.SIGQUIT, signal.SIGTERM)
-INHERIT = None      # as the standard input of a child: the plugin's own
 PIPE, NOTHING = subprocess.PIPE, subprocess.DEVNULL
 TYPE_CHECKING = False
 if TYPE_CHECKING:
@@ -35,8 +35,8 @@ class Signalled(BaseException):
 class Done:
     """How a child ended, and what it said."""
     status: int
-    out: str
-    err: str
+    out: str = ''
+    err: str = ''
 
 
 def hold_files() -> None:
@@ -45,10 +45,9 @@ def hold_files() -> None:
         try:
             os.fstat(number)
         except OSError:
-            # (as standard output it can't be written to)
-            os.dup2(os.open(os.devnull, flags), number)
+            os.dup2(os.open(os.devnull, flags), number)     # as standard output it can't be written to
     if sys.stdout is None:
-        sys.stdout = open(1, 'w', encoding='utf-8', closefd=False)  # noqa: SIM115
+        sys.stdout = open(1, 'w', encoding='utf-8', closefd=False)
 
 
 def program(name: str, path: str) -> str:
@@ -60,11 +59,9 @@ def program(name: str, path: str) -> str:
 def remove_folder(folder: str) -> None:
     """Removes a folder of ours with what is in it."""
     for path, folders, files in os.walk(folder, topdown=False):
-        for name in files:
-            os.remove(os.path.join(path, name))
-        for name in folders:
+        for name in files + folders:
             inner = os.path.join(path, name)
-            os.remove(inner) if os.path.islink(inner) else os.rmdir(inner)
+            os.rmdir(inner) if name in folders and not os.path.islink(inner) else os.remove(inner)
     os.rmdir(folder)
 
 
@@ -72,14 +69,12 @@ class Session:
     """What a run holds until it ends."""
 
     def __init__(self, beside: str = '') -> None:
-        self.progress = Progress()
-        self.environment = dict(os.environ)
+        self.progress, self.environment = Progress(), dict(os.environ)
         self._beside = beside       # the folder in which the plugin stands
         self._scratch = ''
         self._children: list[Child] = []
         self._ends: list[Callable[[], None]] = []
-        self._is_starting = False
-        self._heard = 0
+        self._is_starting, self._heard = False, 0
 
     def __enter__(self) -> Session:
         for number in ENDING:
@@ -87,7 +82,7 @@ class Session:
                 signal.signal(number, self._hear)
         return self
 
-    def __exit__(self, kind: type[BaseException] | None, fault: BaseException | None, trace: TracebackType | None) -> None:
+    def __exit__(self, *_: object) -> None:
         for number in ENDING:
             signal.signal(number, signal.SIG_IGN)
         self.progress.erase()
@@ -96,10 +91,8 @@ class Session:
         for child in self._children:
             child.wait()
         for end in reversed(self._ends):
-            try:
+            with suppress(OSError):     # what can't be removed stays
                 end()
-            except OSError:
-                pass    # what can't be removed stays, and the run ends as it would
 
     def _hear(self, number: int, _frame: FrameType | None) -> None:
         """Ends the run: but a child that is just beginning has to be known first."""
@@ -107,9 +100,8 @@ class Session:
         if not self._is_starting:
             raise Signalled(number)
 
-    # ---- what is said
-
     def report(self, message: str) -> None:
+        """Says a message, in the place of the line of progress."""
         self.progress.erase()
         report(message)
 
@@ -127,18 +119,13 @@ class Session:
 
     def make_scratch(self, parent: str, name: str) -> str:
         """Makes the temporary folder."""
-        for _ in range(100):
-            path = os.path.join(parent, '%s.%s' % (name, os.urandom(5).hex()))
-            try:
-                os.mkdir(path, 0o700)
-            except FileExistsError:
-                continue
-            except OSError:
-                break
-            self.at_end(lambda: remove_folder(path))
-            self._scratch = path
-            return path
-        raise Refused("can't make a temporary folder in %s" % parent)
+        self._scratch = os.path.join(parent, '%s.%s' % (name, os.urandom(8).hex()))
+        try:
+            os.mkdir(self._scratch, 0o700)
+        except OSError as fault:
+            raise Refused("can't make a temporary folder in %s" % parent) from fault
+        self.at_end(lambda: remove_folder(self._scratch))
+        return self._scratch
 
     @property
     def scratch(self) -> str:
@@ -150,13 +137,12 @@ class Session:
 
     def write(self, name: str, text: str) -> str:
         """Writes a file in the temporary folder; its path."""
-        path = self.path(name)
         try:
-            with open(path, 'wb') as file:
+            with open(self.path(name), 'wb') as file:
                 file.write(bytes_of(text))
         except OSError as fault:
             raise Refused("can't write into %s: %s" % (self.scratch, fault.strerror)) from fault
-        return path
+        return self.path(name)
 
     # ---- children
 
@@ -168,7 +154,7 @@ class Session:
     def need_rbacaudit(self) -> None:
         """Where there is none on the PATH, the one beside the plugin does: krew links to the plugin alone."""
         path = self.environment.get('PATH', os.defpath)
-        if not program('rbacaudit', path) and self._beside:
+        if not program('rbacaudit', path):
             self.environment['PATH'] = path + os.pathsep + self._beside
         self.need('rbacaudit', 'make install in its repository puts it beside this plugin; or add its folder to the PATH')
 
@@ -176,10 +162,10 @@ class Session:
         self.need('kubectl', 'install it (https://kubernetes.io/docs/tasks/tools), or answer from an export with --export DIR')
 
     def start(self, words: Sequence[str], **how: Any) -> Child:
-        """Begins a child, which is ended at the latest with the run."""
-        how.setdefault('env', self.environment)
+        """Begins a child, which is ended at the latest with the run. It has the plugin's own standard files unless told otherwise."""
         self._is_starting = True
         try:
+            how.setdefault('env', self.environment)
             child: Child = subprocess.Popen(words, **how)
             self._children.append(child)
         except OSError as fault:
@@ -191,7 +177,10 @@ class Session:
         return child
 
     def end(self, child: Child) -> int:
-        """Waits for a child; its status, as a shell gives it."""
+        """Waits for a child, which can write no more than was taken; its status, as a shell gives it."""
+        for pipe in (child.stdout, child.stderr):
+            if pipe:
+                pipe.close()
         status = child.wait()
         self._children.remove(child)
         return status if status >= 0 else 128 - status
@@ -201,8 +190,7 @@ class Session:
 
     def capture(self, words: Sequence[str], text: str | None = None, **how: Any) -> Done:
         """Runs a child, whose standard input may be a text, and keeps what it says."""
-        if text is not None:
-            how['stdin'] = PIPE
-        child = self.start(words, **{'stdout': PIPE, 'stderr': PIPE, **how})
+        stdin = {} if text is None else {'stdin': PIPE}
+        child = self.start(words, **{'stdout': PIPE, 'stderr': PIPE, **stdin, **how})
         out, err = child.communicate(None if text is None else bytes_of(text))
         return Done(self.end(child), text_of(out or b''), text_of(err or b''))

@@ -2,57 +2,37 @@
 
 from __future__ import annotations
 
-from dataclasses import dataclass, field
-
 from .errors import Ended, Refused
 from .options import COMMANDS, PASSED, Options, Reader, choose_format
 from .processes import NOTHING, Session
 from .terminal import print_text
 
-FLAGS = {'--help': 'help', '--all-namespaces': 'everywhere', '--anywhere': 'anywhere', '--in-namespace': 'in_namespace',
-         '--indirect': 'indirect', '--once': 'once', '--why': 'why'}
-VALUED = {name: option for option in PASSED.values() if option.value for name in option.spellings}
+FLAGS = {'--all-namespaces': 'everywhere', '--anywhere': 'anywhere', '--in-namespace': 'in_namespace', '--indirect': 'indirect',
+         '--once': 'once', '--why': 'why'}
+VALUES = {'--as': 'asker', '--subresource': 'subresource', '--only': 'codes', '--namespace': 'namespace', '-n': 'namespace'}
 ROLES = ['cluster.json', 'namespaced.json']
 PARTS = {'rules': ROLES, 'powers': ROLES, 'lint': ROLES, 'diff': ROLES, 'paths': [*ROLES, 'accounts.json'],
          'matrix': [*ROLES, 'namespaces.json', 'accounts.json', 'api']}
 ACCOUNT = 'system:serviceaccount:'
 
 
-@dataclass
 class Question:
-    """A question to rbacaudit: its words without the command and the FILEs, and what the plugin has to know of them."""
-    command: str
-    words: list[str] = field(default_factory=list)
-    files: list[str] = field(default_factory=list)
-    places: list[str] = field(default_factory=list)     # VERB and TARGET, or WHO
-    dashed: str = ''        # the last value that begins with a dash and its option, as they have to be written
-    verb: str = ''
-    type: str = ''          # nothing if it is about a URL
-    object: str = ''
-    subresource: str = ''
-    codes: str = ''
-    asker: str = ''
-    groups: list[str] = field(default_factory=list)
-    namespace: str = ''
-    has_namespace: bool = False
-    everywhere: bool = False
-    anywhere: bool = False
-    in_namespace: bool = False
-    indirect: bool = False
-    once: bool = False
-    why: bool = False
-    help: bool = False
-    asked_in: str = ''      # the namespace that it is about, or nothing for the whole cluster
-    implied: str = ''       # the same, if the context says it
-    own: str = ''           # the same, if it is about that namespace's own object
-    place_of: str = ''      # what it is the namespace of, if a server asks about a cluster-scoped type in one
+    """A question to rbacaudit, and what the plugin has to know of it."""
+
+    def __init__(self, command: str, files: list[str] | None = None, asked_in: str = '') -> None:
+        self.command, self.files = command, files or []
+        self.words, self.places, self.groups = list[str](), list[str](), list[str]()    # without files; VERB and TARGET, or WHO
+        self.verb = self.type = self.object = self.subresource = self.codes = self.asker = self.namespace = ''
+        self.everywhere = self.anywhere = self.in_namespace = self.indirect = self.once = self.why = self.help = self.has_namespace = False
+        self.dashed = ''            # the last value that begins with a dash and its option, as they have to be written
+        self.asked_in = asked_in    # the namespace that it is about, or nothing for the whole cluster:
+        self.implied = self.own = ''    # if the context says it; if it is about that namespace's own object
+        self.place_of = ''          # what it is the namespace of, if a server asks about a cluster-scoped type in one
 
     def parts(self) -> tuple[list[str], list[str]]:
         """The parts of an export that it reads, and those that only remarks need."""
-        needed = PARTS.get(self.command, [*ROLES, 'api'])
-        if self.indirect:
-            needed = [*needed, 'accounts.json']
-        wanted = (['namespaces.json'] if self.asked_in else []) + (['accounts.json'] if self.asker.startswith(ACCOUNT) else [])
+        needed = PARTS.get(self.command, [*ROLES, 'api']) + ['accounts.json'] * self.indirect
+        wanted = ['namespaces.json'] * bool(self.asked_in) + ['accounts.json'] * self.asker.startswith(ACCOUNT)
         return needed, [part for part in wanted if part not in needed]
 
     @property
@@ -63,10 +43,25 @@ class Question:
     @property
     def line(self) -> list[str]:
         """The words for rbacaudit, with what the plugin adds, but without files."""
-        more = ['--in-namespace'] if self.own or self.place_of else []
-        if not self.has_namespace and (self.implied or self.own):
-            more.insert(0, '--namespace=' + self.asked_in)
-        return [self.command, *more, *self.words]
+        place = ['--namespace=' + self.asked_in] if not self.has_namespace and (self.implied or self.own) else []
+        return [self.command, *place, *['--in-namespace'] * bool(self.own or self.place_of), *self.words]
+
+    def take_groups(self, text: str, splits: bool) -> None:
+        """Takes the groups in a value; a name with a line break is none that a key could have."""
+        if '\n' not in text:
+            self.groups += [group for group in (text.split(',') if splits else [text]) if group]
+
+    def find_target(self) -> None:
+        """What it is about: a type and an object, but for a URL; for rules and paths, the user or the group whose key WHO is."""
+        first, second = [*self.places, '', ''][:2]
+        if self.command in ('can-i', 'who-can'):
+            self.verb = first
+            if not second.startswith('/'):
+                self.type, _, self.object = second.partition('/')
+        elif first.startswith('u:'):
+            self.asker = first[2:]
+        elif first.startswith('g:'):
+            self.take_groups(first[2:], splits=False)
 
 
 class Words:
@@ -79,14 +74,20 @@ class Words:
         self._most = len(COMMANDS[command].places.split()) - 1
 
     def read(self, word: str) -> None:
+        """Reads a word."""
         question = self.question
         if self.awaits:
             self._set(self.awaits, word)
-            if word.startswith('-'):
-                question.dashed = '%s=%s' % (self.awaits, word)
+            question.dashed = '%s=%s' % (self.awaits, word) if word.startswith('-') else question.dashed
             self.awaits = ''
         elif not self.literal and word.startswith('--'):
-            self._read_long(word)
+            name, equals, value = word.partition('=')
+            self.literal = word == '--'
+            if name in PASSED and PASSED[name].value:
+                self.awaits = '' if equals else name
+                self._set(name, value)
+            elif word in FLAGS:
+                setattr(question, FLAGS[word], True)
         elif not self.literal and word.startswith('-') and word != '-':
             self._read_letters(word[1:])
         elif len(question.places) < self._most:
@@ -96,17 +97,6 @@ class Words:
             return
         question.words.append(word)
 
-    def _read_long(self, word: str) -> None:
-        name, equals, value = word.partition('=')
-        self.literal = word == '--'
-        if name in VALUED:
-            if equals:
-                self._set(name, value)
-            else:
-                self.awaits = name
-        elif word in FLAGS:
-            setattr(self.question, FLAGS[word], True)
-
     def _read_letters(self, letters: str) -> None:
         """Reads the letters of a word such as -qA, -n or -nshop."""
         before, n, rest = letters.partition('n')
@@ -114,22 +104,14 @@ class Words:
         self.question.everywhere |= 'A' in before
         if n and rest:
             self._set('-n', rest[1:] if rest[0] == '=' else rest)
-        elif n:
-            self.awaits = '-n'
+        self.awaits = '-n' if n and not rest else ''
 
     def _set(self, name: str, value: str) -> None:
-        question = self.question
-        if name in ('-n', '--namespace'):
-            question.namespace, question.has_namespace = value, True
-        elif name in ('--group', '--groups'):
-            question.groups += groups_in(value, name == '--groups')
-        elif name in ('--as', '--subresource', '--only'):
-            setattr(question, {'--as': 'asker', '--subresource': 'subresource', '--only': 'codes'}[name], value)
-
-
-def groups_in(text: str, splits: bool) -> list[str]:
-    """The groups in a value; a name with a line break is none that a key could have."""
-    return [] if '\n' in text else [group for group in (text.split(',') if splits else [text]) if group]
+        if name in ('--group', '--groups'):
+            self.question.take_groups(value, splits=name == '--groups')
+        elif name in VALUES:
+            setattr(self.question, VALUES[name], value)
+            self.question.has_namespace |= VALUES[name] == 'namespace'
 
 
 def read_question(command: str, words: list[str]) -> tuple[Options, Question]:
@@ -138,52 +120,34 @@ def read_question(command: str, words: list[str]) -> tuple[Options, Question]:
     for word in words:
         if not reader.options.awaits and (passed.awaits or passed.literal) or not reader.takes(word):
             passed.read(word)
-    question = passed.question
-    find_target(question)
-    return reader.options, question
-
-
-def find_target(question: Question) -> None:
-    """What it is about: for rules and paths, the user or the group whose key WHO is."""
-    places = [*question.places, '', '']
-    if question.command in ('can-i', 'who-can'):
-        question.verb, target = places[:2]
-        if not target.startswith('/'):
-            question.type, _, question.object = target.partition('/')
-    elif places[0].startswith('u:'):
-        question.asker = places[0][2:]
-    elif places[0].startswith('g:'):
-        question.groups += groups_in(places[0][2:], splits=False)
+    passed.question.find_target()
+    return reader.options, passed.question
 
 
 def choose_namespace(session: Session, options: Options, question: Question, namespace: str) -> None:
-    """The namespace that a question is about, as far as the words say it. Without -n it is that of the context, as for kubectl;
-    but rules are then those of all bindings. A namespace's own object is asked about in that namespace, as a server does,
-    unless the words say where."""
+    """The namespace that a question is about, as far as the words say it. Without -n it is that of the context, as for kubectl; but rules
+    are then those of all bindings. A namespace's own object is asked about in it, as a server does, unless the words say where."""
     if question.command == 'rules':
         question.asked_in = '' if question.everywhere else question.namespace
-        return
-    if not question.type or question.everywhere or question.anywhere:
-        return
-    question.asked_in = question.namespace or 'default'
-    is_own = question.names_namespace and (not question.has_namespace or question.namespace == question.object)
-    if is_own and not question.in_namespace:
-        question.own = question.asked_in = question.object
-    elif not question.has_namespace:
-        if not options.export:
-            from .kubectl import look_at_context
-            namespace = look_at_context(session, options).namespace
-        question.implied = question.asked_in = namespace or 'default'
+    elif question.type and not question.everywhere and not question.anywhere:
+        question.asked_in = question.namespace or 'default'
+        is_own = question.names_namespace and (not question.has_namespace or question.namespace == question.object)
+        if is_own and not question.in_namespace:
+            question.own = question.asked_in = question.object
+        elif not question.has_namespace:
+            if not options.export:
+                from .kubectl import look_at_context
+                namespace = look_at_context(session, options)[2]
+            question.implied = question.asked_in = namespace or 'default'
 
 
 def check_cluster(session: Session, options: Options, alone: bool = False, reads: bool | None = None) -> None:
     """What the options need, once all are taken: `alone` if manifests alone are asked about, `reads` if a cluster is read."""
     options.check_end()
     targets = options.context or options.kubeconfig or options.timeout
-    if alone:
-        if targets:
-            raise Refused('manifests are read without a cluster: give no option of kubectl')
-    elif not options.export if reads is None else reads:
+    if alone and targets:
+        raise Refused('manifests are read without a cluster: give no option of kubectl')
+    if not alone and (not options.export if reads is None else reads):
         session.need_kubectl()
     elif targets:
         raise Refused('an export answers without a cluster: with --export, give no option of kubectl')
@@ -208,23 +172,17 @@ def question_command(session: Session, command: str, words: list[str]) -> int:
     options, question = read_question(command, words)
     session.need_rbacaudit()
     if options.help or question.help:
-        return question_help(session, command)
-    choose_format(options)
+        status = session.run(['rbacaudit', command, '--help'])
+        print_text('' if status else '\nWith kubectl rbacaudit %s, the files of the export follow by themselves.\nkubectl rbacaudit --help '
+                   'lists its options, such as --export DIR, --partial and -o FORMAT.\n' % command)
+        return status
+    choose_format(options, command)
     # (lint of manifests reads neither a cluster nor an export)
     alone = command == 'lint' and not options.export and bool(question.files)
     check_cluster(session, options, alone)
     accept_words(session, question)
+    from .answer import Asking, answer_question
     if alone:
-        from .answer import Asking
         from .lint import lint_manifests
         return lint_manifests(Asking(session, options, question))
-    from .answer import answer_question
     return answer_question(session, options, question)
-
-
-def question_help(session: Session, command: str) -> int:
-    status = session.run(['rbacaudit', command, '--help'])
-    if not status:
-        print_text('\nWith kubectl rbacaudit %s, the files of the export follow by themselves.\n'
-                   'kubectl rbacaudit --help lists its options, such as --export DIR, --partial and -o FORMAT.\n' % command)
-    return status
