@@ -175,8 +175,7 @@ def answer_question(session: Session, options: Options, question: Question) -> i
 
 def answer(asking: Asking) -> int:
     """Answers, and then says so if the cluster may answer differently."""
-    question, form = asking.question, asking.options.format
-    stale: list[str] = []
+    question, form, stale = asking.question, asking.options.format, ''
     files = [*question.files, *asking.files()]
     line = [*question.line, *files]
     if question.command != 'lint':
