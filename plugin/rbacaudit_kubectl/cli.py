@@ -8,7 +8,6 @@ a word means, so no label and no name can mislead.
 from __future__ import annotations
 
 import os
-import sys
 from importlib import import_module
 
 from . import VERSION
@@ -62,5 +61,4 @@ def main(words: list[str], beside: str) -> int:
 
 def end(status: int) -> None:
     """Ends the process at once: all is written and removed, and what can't be written has been said."""
-    sys.stderr.flush()
     os._exit(status)

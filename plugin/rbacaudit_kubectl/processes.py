@@ -46,6 +46,7 @@ def hold_files() -> None:
             os.fstat(number)
         except OSError:
             os.dup2(os.open(os.devnull, flags), number)     # as standard output it can't be written to
+            os.set_inheritable(number, True)
     if sys.stdout is None:
         sys.stdout = open(1, 'w', encoding='utf-8', closefd=False)
 
