@@ -7,77 +7,46 @@ import subprocess
 from collections.abc import Iterator
 
 from .fields import STEP_NAMES
-from .options import COMMANDS, VALUES, Option, formats_of
+from .options import COMMANDS, VALUES, Option, formats_of, tokens_of
 
 FILES, NOTHING, FOLDERS = ':0', ':4', ':16'
-VERBS = ('get', 'list', 'watch', 'create', 'update', 'patch', 'delete', 'deletecollection', 'use', 'bind', 'escalate', 'impersonate', NOTHING)
-PLACES = {'VERB': VERBS, 'FILE': (FILES,), 'DIR': (FOLDERS,)}
+VERBS = ('get', 'list', 'watch', 'create', 'update', 'patch', 'delete', 'deletecollection', 'use', 'bind', 'escalate', 'impersonate')
+PLACES = {'VERB': (*VERBS, NOTHING), 'FILE': (FILES,), 'DIR': (FOLDERS,)}
 OF_FILES = ('--kubeconfig', '--diff', '--with', '--without', '--from', '--to')
 
 
-class Line:
-    """The words before the one to be completed."""
+def offers(command: str, before: list[str], typed: str) -> Iterator[str]:
+    """What may stand after the words before, and what else."""
+    known, tokens = COMMANDS[command].options, [*tokens_of(command, before)]
+    literal = any(token.name == '--' for token in tokens)
+    places = [token for token in tokens if not token.name]
+    option = next((option for option in known if typed.partition('=')[0] in option.spellings), None)
+    if tokens and tokens[-1].option and tokens[-1].value is None:
+        yield from values(command, tokens[-1].option)
+    elif not literal and typed.startswith('--') and '=' in typed:
+        yield from values(command, option) if option and option.value else (NOTHING,)
+    elif not literal and typed.startswith('-'):
+        for option in known:
+            # (an option is given once, but for the --export of diff, and groups)
+            if all(token.option != option for token in tokens) or (option.repeats and (option.long != '--export' or command == 'diff')):
+                yield from option.spellings
+        yield NOTHING
+    else:
+        wanted = COMMANDS[command].places.split()
+        wanted = wanted[len(places):] or [name for name in wanted if name == 'FILE']
+        yield from PLACES.get(''.join(wanted[:1]), (NOTHING,))
 
-    def __init__(self, command: str) -> None:
-        self.command = command
-        self.options = COMMANDS[command].options if command in COMMANDS else ()
-        self.places = COMMANDS[command].places.split() if command in COMMANDS else []
-        self.awaits: Option | None = None   # the option whose value comes next
-        self.given: list[Option] = []
-        self.literal = False
 
-    def read(self, word: str) -> None:
-        """Reads a word; letters such as those of -qA, -n, -nshop or -ojson."""
-        if self.awaits:
-            self.awaits = None
-        elif self.literal or not word.startswith('-') or word == '-':
-            self.places = self.places[1:] if self.places != ['FILE'] else self.places
-        elif word.startswith('--'):
-            name, equals, _ = word.partition('=')
-            self.literal = word == '--'
-            self._take(name, bool(equals))
-        else:
-            for at, letter in enumerate(word[1:], 2):
-                self._take('-' + letter, letter in 'no' and at < len(word))
-                if letter in 'no':
-                    break
-
-    def _take(self, name: str, has_value: bool) -> None:
-        option = self.option(name)
-        if option:
-            self.given.append(option)
-            self.awaits = option if option.value and not has_value else None
-
-    def option(self, name: str) -> Option | None:
-        """The option of this spelling."""
-        return next((option for option in self.options if name in option.spellings), None)
-
-    def offers(self, typed: str) -> Iterator[str]:
-        """What may stand next, and what else."""
-        option = self.option(typed.partition('=')[0])
-        if self.awaits:
-            yield from self._values(self.awaits)
-        elif not self.literal and typed.startswith('--') and '=' in typed:
-            yield from self._values(option) if option and option.value else (NOTHING,)
-        elif not self.literal and typed.startswith('-'):
-            for option in self.options:
-                # (an option is given once, but for the --export of diff, and groups)
-                if option not in self.given or (option.repeats and (option.long != '--export' or self.command == 'diff')):
-                    yield from option.spellings
-            yield NOTHING
-        else:
-            yield from PLACES.get(''.join(self.places[:1]), (NOTHING,))
-
-    def _values(self, option: Option) -> Iterator[str]:
-        """What may be the value of an option. (page writes --output FILE)"""
-        if option.long in OF_FILES or (option.long, option.value) == ('--output', 'FILE'):
-            yield FILES
-        elif option.long == '--export':
-            yield FOLDERS
-        else:
-            yield from contexts() if option.long == '--context' else ()
-            yield from {**VALUES, '--output': formats_of(self.command), '--steps': STEP_NAMES}.get(option.long, ())
-            yield NOTHING
+def values(command: str, option: Option) -> Iterator[str]:
+    """What may be the value of an option. (page writes --output FILE)"""
+    if option.long in OF_FILES or (option.long, option.value) == ('--output', 'FILE'):
+        yield FILES
+    elif option.long == '--export':
+        yield FOLDERS
+    else:
+        yield from contexts() if option.long == '--context' else ()
+        yield from {**VALUES, '--output': formats_of(command), '--steps': STEP_NAMES}.get(option.long, ())
+        yield NOTHING
 
 
 def contexts() -> list[str]:
@@ -92,15 +61,10 @@ def contexts() -> list[str]:
 def main(words: list[str]) -> int:
     """Prints the words that begin with what is typed. After a tab comes what a word means."""
     *before, typed = words or ['']
+    found = ['-h', '--help', '-V', '--version'] if typed.startswith('-') else ['%s\t%s' % (name, it.text) for name, it in COMMANDS.items()]
     if before:
-        line = Line(before[0])
-        for word in before[1:]:
-            line.read(word)
-        found = [*line.offers(typed)]
-        typed = typed.partition('=')[2] if typed.startswith('--') and '=' in typed and not line.literal else typed
-    else:
-        found = [*('%s\t%s' % (name, it.text) for name, it in COMMANDS.items()), NOTHING]
-        found = ['-h', '--help', '-V', '--version', NOTHING] if typed.startswith('-') else found
-    text = ''.join(one + '\n' for one in found if one[0] == ':' or one.startswith(typed))
-    os.write(1, text.encode('utf-8', 'surrogateescape'))
+        found = [*offers(before[0], before[1:], typed)] if before[0] in COMMANDS else []
+        typed = typed.partition('=')[2] if typed.startswith('--') and '=' in typed and '--' not in before else typed
+    last = found.pop() if found and found[-1].startswith(':') else NOTHING
+    os.write(1, ''.join(one + '\n' for one in found if one.startswith(typed)).encode('utf-8', 'surrogateescape') + last.encode() + b'\n')
     return 0

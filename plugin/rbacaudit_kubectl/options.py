@@ -123,54 +123,18 @@ class Options:
         if self.awaits:
             raise Refused('%s needs a value' % self.awaits)
 
-
-def safe_path(path: str) -> str:
-    """The path, written so that no program takes it for an option or an assignment."""
-    return './' + path if path.startswith('-') or ('=' in path and not path.startswith('/')) else path
-
-
-def manifest_path(path: str) -> str:
-    """The same for manifests: - is standard input."""
-    return path if path == '-' else safe_path(path)
-
-
-class Reader:
-    """Takes words one by one; what is an option of the plugin goes into `options`."""
-
-    def __init__(self, command: str) -> None:
-        self.options = Options(command)
-        self._known = {name: option for option in COMMANDS[command].options if option.field for name in option.spellings}
-        self._awaited = Option('')
-
-    def takes(self, word: str) -> bool:
-        """Takes a word that is an option, or the value of one. A value that begins with a dash is an option: the value was forgotten."""
-        awaits, self.options.awaits = self.options.awaits, ''
-        if awaits:
-            if word.startswith('-') and not (word == '-' and awaits in PATHS):
-                raise Refused('%s needs a value; if %s is the value, write %s=%s' % (awaits, word, awaits, word))
-            self._set(self._awaited, awaits, word)
-            return True
-        name, equals, value = word.partition('=')
-        if word[:1] == '-' != word[1:2] and word[2:]:
-            # (-nshop and -n=shop)
-            name, equals, value = word[:2], '=', word[3:] if word[2] == '=' else word[2:]
-        option = self._known.get(name)
-        if option is None or (equals and not option.value):
-            return False
-        # (--output is called -o in what is said of it)
-        told = '-o' if option.names == '-o,--output' else name
-        if equals:
-            self._set(option, told, value)
-        elif option.value:
-            self.options.awaits, self._awaited = told, option
-        else:
-            setattr(self.options, option.field, True)
-        return True
-
-    def _set(self, option: Option, told: str, value: str) -> None:
-        """An empty value is refused: from an unset variable, it would ask another cluster than was meant."""
-        given = getattr(self.options, option.field)
-        takes_two = told == '--export' and self.options.command == 'diff'
+    def take(self, token: Token, option: Option) -> None:
+        """Takes an option with its value. One that is empty, from an unset variable, would ask another cluster than was meant; and a word that
+        begins with a dash is an option: the value was forgotten."""
+        told = '-o' if option.names == '-o,--output' else token.name
+        value, given = token.value, getattr(self, option.field)
+        takes_two = told == '--export' and self.command == 'diff'
+        if value is None or not option.value:
+            self.awaits = told if option.value else ''
+            setattr(self, option.field, given if option.value else True)
+            return
+        if len(token.words) > 1 and value.startswith('-') and not (value == '-' and told in PATHS):
+            raise Refused('%s needs a value; if %s is the value, write %s=%s' % (told, value, told, value))
         if not value:
             raise Refused('%s needs a value' % told)
         if takes_two and len(given) == 2:
@@ -183,28 +147,73 @@ class Reader:
             raise Refused("diff can't fail on %s: --fail-on takes changes, gains or powers" % value)
         if told in (*PATHS, '--export'):
             value = safe_path(value) if told == '--export' else manifest_path(value)
-        setattr(self.options, option.field, [*given, value] if option.repeats else value)
+        setattr(self, option.field, [*given, value] if option.repeats else value)
+
+
+@dataclass(frozen=True)
+class Token:
+    """An option with its value, or another word of a line; a word that looks like an option and is none has a name."""
+    words: list[str]
+    option: Option | None = None
+    name: str = ''
+    value: str | None = None    # nothing if the line ends before it
+
+
+def tokens_of(command: str, words: list[str]) -> Iterator[Token]:
+    """Takes a line apart, as rbacaudit does."""
+    known = {name: option for option in COMMANDS[command].options for name in option.spellings}
+    left, literal = [*words], False
+    while left:
+        word = left.pop(0)
+        if literal or not word.startswith('-') or word == '-':
+            yield Token([word])
+            continue
+        literal, is_long = word == '--', word.startswith('--')
+        name, equals, value = word.partition('=')
+        rest = '' if is_long else word[1:]
+        while rest or is_long:
+            # (letters such as -qAn; what stands behind one with a value is the value: -nshop, or -n=shop)
+            name, rest, is_long = (name, '', False) if is_long else ('-' + rest[0], rest[1:], False)
+            option = known.get(name)
+            if option and option.value and rest:
+                equals, value, rest = '=', rest[1:] if rest[0] == '=' else rest, ''
+            if option is None or (equals and not option.value and name.startswith('--')):
+                yield Token([name + rest if not name.startswith('--') else word], None, word)
+                rest = ''
+            elif not option.value or equals:
+                yield Token([name + (equals and '=' + value) * bool(option.value)], option, name, value)
+            else:
+                apart = left[:1]
+                del left[:1]
+                yield Token([name, *apart], option, name, *apart)
+
+
+def safe_path(path: str) -> str:
+    """The path, written so that no program takes it for an option or an assignment."""
+    return './' + path if path.startswith('-') or ('=' in path and not path.startswith('/')) else path
+
+
+def manifest_path(path: str) -> str:
+    """The same for manifests: - is standard input."""
+    return path if path == '-' else safe_path(path)
 
 
 def read_options(command: str, words: list[str]) -> Options:
     """Reads the words of a command whose options are all the plugin's own; help ends the run."""
-    reader, literal = Reader(command), False
-    for word in words:
-        if reader.options.awaits or not literal:
-            if reader.takes(word):
-                continue
-            if command == 'page' and word == '--':
-                literal = True
-                continue
-            if not COMMANDS[command].places or (word.startswith('-') and word != '-'):
-                of = '' if command == 'universe' else ' ' + command
-                raise Refused('%s has no %s; kubectl rbacaudit%s --help lists its options' % (command, word, of))
-        reader.options.paths.append(manifest_path(word) if command == 'read' else word)
-    if reader.options.help:
+    options = Options(command)
+    for token in tokens_of(command, words):
+        if token.option:
+            options.take(token, token.option)
+        elif not COMMANDS[command].places or (token.name and not (command == 'page' and token.name == '--')):
+            raise Refused('%s has no %s; kubectl rbacaudit%s --help lists its options' % (
+                command, token.name or token.words[0], '' if command == 'universe' else ' ' + command))
+        elif not token.name:
+            options.paths.append(manifest_path(token.words[0]) if command == 'read' else token.words[0])
+    if options.help:
         from .help import help_of
         print_text(help_of(command))
         raise Ended(0)
-    return reader.options
+    return options
 
 
 def formats_of(command: str) -> tuple[str, ...]:

@@ -3,13 +3,13 @@
 from __future__ import annotations
 
 from .errors import Ended, Refused
-from .options import COMMANDS, PASSED, Options, Reader, choose_format
+from .options import COMMANDS, Options, Token, choose_format, tokens_of
 from .processes import NOTHING, Session
 from .terminal import print_text
 
 FLAGS = {'--all-namespaces': 'everywhere', '--anywhere': 'anywhere', '--in-namespace': 'in_namespace', '--indirect': 'indirect',
          '--once': 'once', '--why': 'why'}
-VALUES = {'--as': 'asker', '--subresource': 'subresource', '--only': 'codes', '--namespace': 'namespace', '-n': 'namespace'}
+VALUES = {'--as': 'asker', '--subresource': 'subresource', '--only': 'codes', '--namespace': 'namespace'}
 ROLES = ['cluster.json', 'namespaced.json']
 PARTS = {'rules': ROLES, 'powers': ROLES, 'lint': ROLES, 'diff': ROLES, 'paths': [*ROLES, 'accounts.json'],
          'matrix': [*ROLES, 'namespaces.json', 'accounts.json', 'api']}
@@ -23,7 +23,7 @@ class Question:
         self.command, self.files = command, files or []
         self.words, self.places, self.groups = list[str](), list[str](), list[str]()    # without files; VERB and TARGET, or WHO
         self.verb = self.type = self.object = self.subresource = self.codes = self.asker = self.namespace = ''
-        self.everywhere = self.anywhere = self.in_namespace = self.indirect = self.once = self.why = self.help = self.has_namespace = False
+        self.everywhere = self.anywhere = self.in_namespace = self.indirect = self.once = self.why = self.has_namespace = False
         self.dashed = ''            # the last value that begins with a dash and its option, as they have to be written
         self.asked_in = asked_in    # the namespace that it is about, or nothing for the whole cluster:
         self.implied = self.own = ''    # if the context says it; if it is about that namespace's own object
@@ -46,6 +46,19 @@ class Question:
         place = ['--namespace=' + self.asked_in] if not self.has_namespace and (self.implied or self.own) else []
         return [self.command, *place, *['--in-namespace'] * bool(self.own or self.place_of), *self.words]
 
+    def take(self, token: Token, name: str) -> None:
+        """Takes an option that rbacaudit has."""
+        value = token.value or ''
+        if name in ('--group', '--groups'):
+            self.take_groups(value, name == '--groups')
+        elif name in VALUES:
+            setattr(self, VALUES[name], value)
+            self.has_namespace |= name == '--namespace' and token.value is not None
+        elif name in FLAGS:
+            setattr(self, FLAGS[name], True)
+        if len(token.words) > 1 and value.startswith('-'):
+            self.dashed = '%s=%s' % (token.name, value)
+
     def take_groups(self, text: str, splits: bool) -> None:
         """Takes the groups in a value; a name with a line break is none that a key could have."""
         if '\n' not in text:
@@ -64,64 +77,25 @@ class Question:
             self.take_groups(first[2:], splits=False)
 
 
-class Words:
-    """Reads words as rbacaudit does."""
-
-    def __init__(self, command: str) -> None:
-        self.question = Question(command)
-        self.awaits = ''        # the option whose value the next word is
-        self.literal = False    # whether -- stood
-        self._most = len(COMMANDS[command].places.split()) - 1
-
-    def read(self, word: str) -> None:
-        """Reads a word."""
-        question = self.question
-        if self.awaits:
-            self._set(self.awaits, word)
-            question.dashed = '%s=%s' % (self.awaits, word) if word.startswith('-') else question.dashed
-            self.awaits = ''
-        elif not self.literal and word.startswith('--'):
-            name, equals, value = word.partition('=')
-            self.literal = word == '--'
-            if name in PASSED and PASSED[name].value:
-                self.awaits = '' if equals else name
-                self._set(name, value)
-            elif word in FLAGS:
-                setattr(question, FLAGS[word], True)
-        elif not self.literal and word.startswith('-') and word != '-':
-            self._read_letters(word[1:])
-        elif len(question.places) < self._most:
-            question.places.append(word)
-        else:
-            question.files.append(word)
-            return
-        question.words.append(word)
-
-    def _read_letters(self, letters: str) -> None:
-        """Reads the letters of a word such as -qA, -n or -nshop."""
-        before, n, rest = letters.partition('n')
-        self.question.help |= 'h' in before
-        self.question.everywhere |= 'A' in before
-        if n and rest:
-            self._set('-n', rest[1:] if rest[0] == '=' else rest)
-        self.awaits = '-n' if n and not rest else ''
-
-    def _set(self, name: str, value: str) -> None:
-        if name in ('--group', '--groups'):
-            self.question.take_groups(value, splits=name == '--groups')
-        elif name in VALUES:
-            setattr(self.question, VALUES[name], value)
-            self.question.has_namespace |= VALUES[name] == 'namespace'
-
-
 def read_question(command: str, words: list[str]) -> tuple[Options, Question]:
     """The plugin's own options, and the question in the other words."""
-    reader, passed = Reader(command), Words(command)
-    for word in words:
-        if not reader.options.awaits and (passed.awaits or passed.literal) or not reader.takes(word):
-            passed.read(word)
-    passed.question.find_target()
-    return reader.options, passed.question
+    options, question = Options(command), Question(command)
+    most = len(COMMANDS[command].places.split()) - 1
+    for token in tokens_of(command, words):
+        word = token.words[0]
+        if token.option and token.option.field:
+            options.take(token, token.option)
+            continue
+        if token.option:
+            question.take(token, token.option.long)
+        elif not token.name and len(question.places) == most:
+            question.files.append(word)
+            continue
+        elif not token.name:
+            question.places.append(word)
+        question.words += token.words
+    question.find_target()
+    return options, question
 
 
 def choose_namespace(session: Session, options: Options, question: Question, namespace: str) -> None:
@@ -171,7 +145,7 @@ def question_command(session: Session, command: str, words: list[str]) -> int:
     """Takes the words of a question, without the plugin's own options, to rbacaudit."""
     options, question = read_question(command, words)
     session.need_rbacaudit()
-    if options.help or question.help:
+    if options.help:
         status = session.run(['rbacaudit', command, '--help'])
         print_text('' if status else '\nWith kubectl rbacaudit %s, the files of the export follow by themselves.\nkubectl rbacaudit --help '
                    'lists its options, such as --export DIR, --partial and -o FORMAT.\n' % command)
