@@ -414,7 +414,7 @@ def random_summaries(it):
 TABLE = '''import json, sys
 sys.path.insert(0, sys.argv[1])
 from rbacaudit_kubectl.fields import STEPS
-print(json.dumps([(it.name, it.verbs, it.types, it.is_of_cluster, it.is_by_name) for it in STEPS]))
+print(json.dumps(STEPS))
 '''
 SUMMARY_OF = '''import sys
 sys.path.insert(0, sys.argv[1])
@@ -434,8 +434,7 @@ def steps():
     wanted = [(power, verbs.split(), types.split(), in_cluster, named) for power, verbs, types, in_cluster, named in POWERS]
     said = steps_of_behaviour()
     checked('docs/BEHAVIOUR.md: the powers', said == wanted, repr(said))
-    table = [(power, verbs, [resource + ('.' + group if group != '-' else '') for resource, group in types], in_cluster, named)
-             for power, verbs, types, in_cluster, named in json.loads(python(TABLE))]
+    table = [(power, verbs.split(), types.split(), 'cluster' in where, 'named' in where) for power, verbs, types, where in json.loads(python(TABLE))]
     checked('fields.py: the powers', table == wanted, repr(table))
     chosen = random.Random(3)
     words = [sorted({word for change in POWERS for word in of(change)} | {'*', 'x'}) for of in (
