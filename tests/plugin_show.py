@@ -419,7 +419,7 @@ print(json.dumps(STEPS))
 SUMMARY_OF = '''import sys
 sys.path.insert(0, sys.argv[1])
 from rbacaudit_kubectl.summary import summarize
-print(summarize(sys.stdin.read().splitlines())[0], end='')
+print(summarize([line.split(chr(9)) for line in sys.stdin.read().splitlines()])[0], end='')
 '''
 
 
