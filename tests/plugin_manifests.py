@@ -210,7 +210,8 @@ def refusals(it):
 def without_kubectl(it):
     """Without kubectl no manifest is read, JSON or not: it alone says what a document means."""
     put(it, {'role.json': ROLE})
-    os.symlink(sys.executable, os.path.join(it.bin, 'python3'))
+    for name, program in (('python3', sys.executable), (it.shell, shutil.which(it.shell))):
+        os.symlink(program, os.path.join(it.bin, name))
     os.remove(os.path.join(it.bin, 'kubectl'))
     for line in (['read', 'role.json'], ['lint', 'role.json'], ['diff', '--from', 'role.json', '--to', 'role.json']):
         it.expect('without kubectl: %s' % line[0], line, 2, '', 'kubectl-rbacaudit: there is no kubectl on the PATH: it reads the manifests; '

@@ -6,14 +6,11 @@ import json
 import os
 import re
 
+from .answer import Asking
 from .documents import item_of, read_document, read_text, text_in, told
 from .manifests import BINDINGS, RBAC, ROLES
-
-TYPE_CHECKING = False
-if TYPE_CHECKING:
-    from .answer import Asking
-    from .processes import Session
-    from .question import Question
+from .processes import Session
+from .question import Question
 
 # The first line that says something: a comment and a directive don't, and an error that kubectl printed isn't YAML.
 SILENT = re.compile(r'[ \t]*(#.*)?\r?$|%')

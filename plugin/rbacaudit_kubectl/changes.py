@@ -8,14 +8,11 @@ from .export import open_export
 from .help import help_of
 from .manifests import Manifests, check_inputs, check_namespace, is_of_rbac, key_of_item, name_path, need_held, take_manifests
 from .options import Options, choose_format, read_options
+from .processes import Session
 from .question import Question, check_cluster
 from .remarks import first_three, look_for_universe
-from .stale import remark_on_change, remark_on_side, rows_of
+from .stale import find_roles, rows_of
 from .terminal import print_text
-
-TYPE_CHECKING = False
-if TYPE_CHECKING:
-    from .processes import Session
 
 
 def diff_command(session: Session, words: list[str]) -> int:
@@ -85,7 +82,11 @@ def compare_states(asking: Asking) -> int:
 def open_side(asking: Asking, folder: str, only_in: str = '') -> tuple[list[str], str, list[str]]:
     """Opens an export, or a fresh one: its files, the namespace that it has alone, and its stale aggregates."""
     export = asking.export = open_export(asking.session, asking.options, asking.question, folder, only_in)
-    return export.files('cluster.json', 'namespaced.json'), export.only, remark_on_side(asking)
+    stale = find_roles(asking)
+    if stale:
+        asking.session.report('stale aggregates (L6 of lint) in %s: %s; the cluster grants what is written in them, and these lines have '
+                              'what they gather' % (export.named, ', '.join(stale)))
+    return export.files('cluster.json', 'namespaced.json'), export.only, stale
 
 
 def compare_exports(asking: Asking) -> int:
@@ -117,7 +118,10 @@ def compare_change(asking: Asking) -> int:
     else:
         session.report(over + ' the export: objects that the change deletes still count')
     if put:
-        remark_on_change(asking, put.file, stale)
+        made = [role for role in find_roles(asking, put.file) if role not in stale]
+        if made:
+            session.report('this change makes stale aggregates (L6 of lint): %s; a cluster grants what is written in them, for ever if '
+                           'they select each other, and these lines have what they gather' % ', '.join(made))
         words += ['--with', put.file]
     return compare(asking, words, gone, put)
 

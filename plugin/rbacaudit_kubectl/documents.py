@@ -5,12 +5,9 @@ from __future__ import annotations
 import json
 import os
 from contextlib import suppress
+from typing import Any
 
 from .escapes import bytes_of, text_of
-
-TYPE_CHECKING = False
-if TYPE_CHECKING:
-    from typing import Any
 
 MOST_BYTES = 500    # of a text in a message
 

@@ -2,15 +2,11 @@
 
 from __future__ import annotations
 
-from .answer import ask, show_text
+from .answer import Asking, ask, show_text
 from .fields import in_key
 from .manifests import check_inputs, key_of_item, need_held, take_manifests
 from .options import manifest_path
 from .stale import rows_of
-
-TYPE_CHECKING = False
-if TYPE_CHECKING:
-    from .answer import Asking
 
 
 def lint_manifests(asking: Asking) -> int:

@@ -3,22 +3,20 @@
 from __future__ import annotations
 
 import os
+from collections.abc import Iterator
+from itertools import accumulate
+from typing import Any
 
 from .manifests import KUSTOMIZATIONS, NAMESPACED, key_of
 
-TYPE_CHECKING = False
-if TYPE_CHECKING:
-    from collections.abc import Iterable, Iterator
-    from typing import Any, Tuple, Union
-    Place = Tuple[Union[str, int, None], ...]
+DEEPEST = 100   # objects and lists within each other, of what is read for its lines
 
 
 def source_of(origin: str) -> str:
-    """The file to show for what was read from there: of a folder, its kustomization. What is no file of a repository, such as a
-    pipe, has none."""
-    names = [origin, *(os.path.join(origin, name) for name in KUSTOMIZATIONS)]
-    is_shown = not origin.startswith(('/dev/', '/proc/'))
-    return next((name for name in names if is_shown and os.path.isfile(name)), '')
+    """The file to show for what was read from there: of a folder, its kustomization. What is no file of a repository has none."""
+    if origin.startswith(('/dev/', '/proc/')):
+        return ''
+    return next(filter(os.path.isfile, [origin, *(os.path.join(origin, name) for name in KUSTOMIZATIONS)]), '')
 
 
 def home_folder() -> str:
@@ -44,14 +42,15 @@ class Lines:
     def line_of(self, path: str, key: str) -> int:
         """The line with the name of an object, or 1 where nobody can tell."""
         if path not in self._read:
-            self._read[path] = dict(objects_in(path))
+            self._read[path] = dict(names_in(path))
+        lines = self._read[path]
         kind, _, name = key.partition('/')
         # (an object may have got its namespace from -n)
         bare = '%s/default/%s' % (kind, name.partition('/')[2]) if kind in NAMESPACED else key
-        return self._read[path].get(key) or self._read[path].get(bare) or 1
+        return lines.get(key, lines.get(bare, 1))
 
 
-def objects_in(path: str) -> Iterator[tuple[str, int]]:
+def names_in(path: str) -> Iterator[tuple[str, int]]:
     """The objects in a file, with the line of each name, as far as PyYAML reads it. Without PyYAML there are none."""
     import importlib
     import site
@@ -60,41 +59,24 @@ def objects_in(path: str) -> Iterator[tuple[str, int]]:
         yaml = importlib.import_module('yaml')
     except ImportError:
         return
+    loader = getattr(yaml, 'CSafeLoader', yaml.SafeLoader)
     try:
         with open(path, 'rb') as file:
-            yield from objects_of(yaml.parse(file, getattr(yaml, 'CSafeLoader', yaml.SafeLoader)))
+            text = file.read()
+        events = (type(event).__name__ for event in yaml.parse(text, loader))
+        if max(accumulate(name.endswith('StartEvent') - name.endswith('EndEvent') for name in events)) <= DEEPEST:
+            for document in yaml.compose_all(text, loader):
+                items = member(document, 'items')
+                for item in [document] if items is None else items.value:
+                    metadata = member(item, 'metadata')
+                    parts = member(item, 'kind'), member(metadata, 'namespace'), member(metadata, 'name')
+                    if parts[2] is not None:
+                        yield key_of(*(str(part.value) if part else '' for part in parts)), parts[2].start_mark.line + 1
     except (OSError, ValueError, yaml.YAMLError):
         return
 
 
-def objects_of(events: Iterable[Any]) -> Iterator[tuple[str, int]]:
-    """The same by the events of PyYAML, which come one by one, however deep a file is nested."""
-    place: list[str | int | None] = []  # the last key of each object that is open, None before one, and 0 for each list
-    fields: dict[Place, Any] = {}
-    for event in events:
-        what = type(event).__name__
-        if what in ('MappingStartEvent', 'SequenceStartEvent'):
-            place.append(None if what == 'MappingStartEvent' else 0)
-            continue
-        if what in ('MappingEndEvent', 'SequenceEndEvent'):
-            place.pop()
-            if what == 'MappingEndEvent' and place in ([], ['items', 0]):
-                yield from object_at(tuple(place), fields)
-        elif what not in ('ScalarEvent', 'AliasEvent'):
-            fields.clear()
-            continue
-        # (a node has ended: a key, or the value of one)
-        if place and place[-1] is None:
-            place[-1] = getattr(event, 'value', '')
-        elif place and place[-1] != 0:
-            if len(place) < 5:
-                fields[tuple(place)] = event
-            place[-1] = None
-
-
-def object_at(place: Place, fields: dict[Place, Any]) -> Iterator[tuple[str, int]]:
-    """The object whose fields have been read, with the line of its name, unless it is a list or has none."""
-    wanted: tuple[Place, ...] = ('kind',), ('metadata', 'namespace'), ('metadata', 'name')
-    found = [fields.pop(place + of, None) for of in wanted]
-    if hasattr(found[2], 'value') and (place or ('items',) not in fields):
-        yield key_of(*(getattr(one, 'value', '') for one in found)), found[2].start_mark.line + 1
+def member(node: Any, name: str) -> Any:
+    """The value of a member of an object of YAML: of several, the last."""
+    pairs = node.value if getattr(node, 'id', '') == 'mapping' else []
+    return next((value for key, value in reversed(pairs) if key.value == name), None)

@@ -3,25 +3,20 @@
 from __future__ import annotations
 
 import json
+from collections.abc import Iterator
 from dataclasses import dataclass
 from itertools import groupby, islice
+from typing import Any, Dict
 
 from . import VERSION
+from .answer import Asking
 from .documents import read_document
 from .escapes import escaped
-from .manifests import Manifests, is_held, key_of_item, role_of
+from .manifests import Item, Manifests, is_held, key_of_item, role_of
 from .places import Lines, address_of, home_folder, source_of
 from .stale import rows_of
 
-TYPE_CHECKING = False
-if TYPE_CHECKING:
-    from collections.abc import Iterator
-    from typing import Any, Dict
-
-    from .answer import Asking
-    from .manifests import Item
-    Part = Dict[str, Any]   # of the SARIF
-
+Part = Dict[str, Any]   # of the SARIF
 MOST = 25000    # GitHub refuses a file with more results
 FEW = 10        # how many permissions a message lists
 SCHEMA = 'https://docs.oasis-open.org/sarif/sarif/v2.1.0/os/schemas/sarif-schema-2.1.0.json'

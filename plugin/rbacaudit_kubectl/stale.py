@@ -2,16 +2,10 @@
 
 from __future__ import annotations
 
+from .answer import Asking
 from .documents import read_text
+from .processes import Done
 
-TYPE_CHECKING = False
-if TYPE_CHECKING:
-    from .answer import Asking
-    from .processes import Done
-
-GATHERED = 'the cluster grants what is written in them, and %s what they gather'
-MADE = ('this change makes stale aggregates (L6 of lint): %s; a cluster grants what is written in them, for ever if they select '
-        'each other, and these lines have what they gather')
 DIFFERS = {'who-can': 'holders', 'rules': 'rules', 'powers': 'powers', 'paths': 'paths'}
 # The fields of a line that tell something, by their number: the others say where a rule is written.
 TELLING = {8: (0, 1, 2), 10: (0, 5, 6, 7, 8, 9), 11: (0, 1, 2, 3, 4, 5)}
@@ -42,31 +36,16 @@ def find_roles(asking: Asking, *more: str) -> list[str]:
 
 
 def find_stale(asking: Asking) -> str:
-    """The stale aggregates of an export, in a message."""
+    """The same of an export alone, in a message."""
     return ', '.join(find_roles(asking))
-
-
-def remark_on_side(asking: Asking) -> list[str]:
-    """Reports the stale aggregates of an export that diff compares."""
-    roles = find_roles(asking)
-    if roles and asking.export:
-        said = asking.export.named, ', '.join(roles), GATHERED % 'these lines have'
-        asking.session.report('stale aggregates (L6 of lint) in %s: %s; %s' % said)
-    return roles
-
-
-def remark_on_change(asking: Asking, change: str, before: list[str]) -> None:
-    """Reports the aggregated roles that what a change puts makes stale, or takes into use."""
-    roles = [role for role in find_roles(asking, change) if role not in before]
-    if roles:
-        asking.session.report(MADE % ', '.join(roles))
 
 
 def remark_on_stale(asking: Asking, stale: str, line: list[str], files: list[str], answer: Done) -> None:
     """Asks again as a cluster decides, by the rules that are written in aggregated roles, and says what it answers."""
     session, command = asking.session, asking.question.command
     if command == 'matrix':
-        session.report('stale aggregates (L6 of lint): %s; %s' % (stale, GATHERED % 'this matrix has'))
+        session.report('stale aggregates (L6 of lint): %s; the cluster grants what is written in them, and this matrix has what they '
+                       'gather' % stale)
         return
     # (no other object has the field, and a text that looks like it has a backslash before its last quote; of documents that
     # have an object, the last counts)

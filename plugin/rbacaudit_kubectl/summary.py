@@ -5,10 +5,6 @@ from __future__ import annotations
 from .escapes import bytes_of
 from .fields import STEP_NAMES, powers_of
 
-TYPE_CHECKING = False
-if TYPE_CHECKING:
-    from collections.abc import Iterable, Sequence
-
 
 class Tally:
     """How many permissions are gained and lost, and the powers among them."""
@@ -17,7 +13,7 @@ class Tally:
         self.counts = {'+': 0, '-': 0}
         self.powers: dict[str, set[str]] = {'+': set(), '-': set()}
 
-    def take(self, cells: Sequence[str]) -> None:
+    def take(self, cells: list[str]) -> None:
         """Counts a line of diff."""
         self.counts[cells[0]] += 1
         self.powers[cells[0]].update(powers_of('diff', cells))
@@ -33,7 +29,7 @@ class Tally:
         return int(counted.get(fails_on, sum(self.counts.values())) > 0)
 
 
-def summarize(rows: Iterable[Sequence[str]]) -> tuple[str, Tally]:
+def summarize(rows: list[list[str]]) -> tuple[str, Tally]:
     """A line for each who, where and binding of lines of diff, and one for all; and the latter's counts."""
     total = Tally()
     tallies: dict[tuple[str, str, str], Tally] = {}
