@@ -194,6 +194,19 @@ def refusals(it):
             it.checked('%s %r' % (line, said), got == (2, '', said), got)
         for name in it.files('.'):
             shutil.rmtree(os.path.join(it.work, name), ignore_errors=True)
+    # (nobody but the file's owner may have a runner's files printed, or a branch compared with itself)
+    put(it, {'main/a.json': ROLE, 'secret.json': ROLE, 'm/in/a.json': ROLE})
+    for target in ('../../secret.json', '../../main/a.json', it.at('work/secret.json'), '/proc/self/environ'):
+        os.symlink(target, os.path.join(it.work, 'm', 'in', 'b.json'))
+        for line in (['read', 'm'], ['lint', 'm'], ['diff', '--from', 'main', '--to', 'm'], ['diff', '--with', 'm/in']):
+            got = without_cluster(it, *line)
+            it.checked('a link to %s: %s' % (target, line), got[:2] == (2, '') and got[2].endswith(
+                'kubectl-rbacaudit: m/in/b.json is a link that leads out of %s, so nothing is read\n' % line[-1]), got)
+        os.remove(os.path.join(it.work, 'm', 'in', 'b.json'))
+    put(it, {'m/in/b.json': {**ROLE, 'kind': 'x\n::error::y', 'apiVersion': V1}, 'm/in/c.json': '[::error::\n::error::]'})
+    for given in ('m/in/b.json', 'm/in/c.json', 'm'):
+        status, out, err = got = without_cluster(it, 'read', given)
+        it.checked('no line begins with words of a file: %s' % given, (status, out) == (2, '') and err and '\n::' not in err, got)
     put(it, {'k/kustomization.yaml': {'resources': ['gone.json']}})
     status, out, err = got = without_cluster(it, 'read', 'k')
     it.checked('a bad kustomization', (status, out) == (2, '') and 'gone.json' in err and err.endswith(

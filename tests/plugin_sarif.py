@@ -298,7 +298,8 @@ def changed(it):
 HOSTILE = {'[x](https://evil.example)': ('\\x5bx\\x5d(https://evil.example)', '[x](https://evil.example)'), '{0}': ('\\x7b0\\x7d', '{0}'),
            'x\u202eyes\u2066': ('x\\xe2\\x80\\xaeyes\\xe2\\x81\\xa6',) * 2, 'back\\slash': ('back\\\\slash',) * 2, '"': ('"', '"'), "'": ("'", "'"),
            'line\nbreak\ttab\x7f': ('line\\x0abreak\\x09tab\\x7f',) * 2, 'caf\u00e9\U0001f600': ('caf\u00e9\U0001f600',) * 2, '\U000e0041': ('\\xf3\\xa0\\x81\\x81',) * 2,
-           '\u200b' * 400: ('\\xe2\\x80\\x8b' * 400,) * 2, '&lt;<b>': ('&lt;<b>',) * 2, '%s%d\\n': ('%s%d\\\\n',) * 2, '-': ('-', '-'), '*': ('*', '*')}
+           '\u200b' * 400: ('\\xe2\\x80\\x8b' * 400,) * 2, '&lt;<b>': ('&lt;<b>',) * 2, '%s%d\\n': ('%s%d\\\\n',) * 2, '-': ('-', '-'), '*': ('*', '*'),
+           '\u034f\u2800\u3164\ufe0f': ('\\xcd\\x8f\\xe2\\xa0\\x80\\xe3\\x85\\xa4\\xef\\xb8\\x8f',) * 2}
 BLANK = 'a "b" c'
 
 
