@@ -23,17 +23,13 @@ def in_key(text: str) -> str:
 
 def in_field(text: str) -> str:
     """A text as rbacaudit prints it as a field."""
-    if text in ('', '-'):
-        return '\\x2d' if text else '-'
-    return in_key(text)
+    return in_key(text) if text not in ('', '-') else '\\x2d' if text else '-'
 
 
 def text_of(field: str) -> str:
     """The text that a field stands for. Escapes are bytes: several may be one character."""
-    if field == '-':
-        return ''
     if '\\' not in field:
-        return field
+        return '' if field == '-' else field
     return text_of_bytes(_ESCAPE.sub(lambda one: bytes([int(one[1], 16)]) if one[1] else b'\\', bytes_of(field)))
 
 
@@ -42,59 +38,43 @@ def words_of(field: str) -> list[str]:
     return field[1:-1].split(',') if field != '[]' else []
 
 
-# ---- the powers
+# ---- the powers: the steps by which somebody takes over somebody else
 
-@dataclass(frozen=True)
-class Step:
-    """Requests by which somebody takes over somebody else. A type has its group after the first dot."""
-
-    name: str
-    verbs: tuple[str, ...]
-    types: tuple[tuple[str, str], ...]
-    is_of_cluster: bool  # only a ClusterRoleBinding gives it
-    is_by_name: bool  # a rule that is limited to object names gives it too
-
-
-def _step(name: str, verbs: str, types: str, where: str = '') -> Step:
-    split = (word.partition('.') for word in types.split())
-    return Step(name, tuple(verbs.split()), tuple((resource, group or '-') for resource, _, group in split),
-                'cluster' in where, 'named' in where)
-
-
-# (docs/BEHAVIOUR.md shows this table)
+# (the step; its verbs; its types, each with its group after the first dot; `cluster` where only a ClusterRoleBinding gives it, `named` where a rule
+# that is limited to object names gives it too. docs/BEHAVIOUR.md shows this table.)
 STEPS = (
-    _step('impersonate', 'impersonate', 'users groups', 'cluster named'),
-    _step('impersonate', 'impersonate', 'serviceaccounts', 'named'),
-    _step('token', 'create', 'serviceaccounts/token', 'named'),
-    _step('run', 'create', 'pods jobs.batch'),
-    _step('run', 'create update patch', 'replicationcontrollers daemonsets.apps deployments.apps replicasets.apps '
-          'statefulsets.apps cronjobs.batch'),
-    _step('exec', 'create get', 'pods/attach pods/exec'),
-    _step('exec', 'update patch', 'pods pods/ephemeralcontainers'),
-    _step('secrets', 'get list watch', 'secrets'),
-    _step('nodes', 'create get', 'nodes/proxy', 'cluster'),
-    _step('bind', 'bind', 'clusterroles.rbac.authorization.k8s.io roles.rbac.authorization.k8s.io', 'named'),
-    _step('escalate', 'escalate', 'clusterroles.rbac.authorization.k8s.io', 'cluster named'),
-    _step('escalate', 'escalate', 'roles.rbac.authorization.k8s.io', 'named'),
-    _step('certificates', 'update patch', 'certificatesigningrequests/approval.certificates.k8s.io', 'cluster'),
-    _step('webhooks', 'create update patch', 'mutatingwebhookconfigurations.admissionregistration.k8s.io '
-          'validatingwebhookconfigurations.admissionregistration.k8s.io', 'cluster'))
-STEP_NAMES = tuple(dict.fromkeys(step.name for step in STEPS))
+    ('impersonate', 'impersonate', 'users groups', 'cluster named'),
+    ('impersonate', 'impersonate', 'serviceaccounts', 'named'),
+    ('token', 'create', 'serviceaccounts/token', 'named'),
+    ('run', 'create', 'pods jobs.batch', ''),
+    ('run', 'create update patch', 'replicationcontrollers daemonsets.apps deployments.apps replicasets.apps statefulsets.apps cronjobs.batch', ''),
+    ('exec', 'create get', 'pods/attach pods/exec', ''),
+    ('exec', 'update patch', 'pods pods/ephemeralcontainers', ''),
+    ('secrets', 'get list watch', 'secrets', ''),
+    ('nodes', 'create get', 'nodes/proxy', 'cluster'),
+    ('bind', 'bind', 'clusterroles.rbac.authorization.k8s.io roles.rbac.authorization.k8s.io', 'named'),
+    ('escalate', 'escalate', 'clusterroles.rbac.authorization.k8s.io', 'cluster named'),
+    ('escalate', 'escalate', 'roles.rbac.authorization.k8s.io', 'named'),
+    ('certificates', 'update patch', 'certificatesigningrequests/approval.certificates.k8s.io', 'cluster'),
+    ('webhooks', 'create update patch', 'mutatingwebhookconfigurations.admissionregistration.k8s.io '
+     'validatingwebhookconfigurations.admissionregistration.k8s.io', 'cluster'))
+STEP_NAMES = tuple(dict.fromkeys(name for name, *_ in STEPS))
 
 
 @functools.lru_cache(maxsize=4096)
-def steps_of(verbs: tuple[str, ...], groups: tuple[str, ...], resources: tuple[str, ...], is_named: bool,
-                    is_in_cluster: bool) -> tuple[str, ...]:
+def steps_of(verbs: tuple[str, ...], groups: tuple[str, ...], resources: tuple[str, ...], is_named: bool, is_in_cluster: bool) -> tuple[str, ...]:
     """The steps that a rule gives, in the order of the table. Words are fields."""
-    def has_resource(wanted: str) -> bool:
-        _, slash, below = wanted.partition('/')
-        return '*' in resources or wanted in resources or bool(slash) and '*/' + below in resources
+    def has(words: tuple[str, ...], *wanted: str) -> bool:
+        return '*' in words or any(word in words for word in wanted)
+
+    def has_type(type_: str) -> bool:
+        resource, _, group = type_.partition('.')
+        _, slash, below = resource.partition('/')
+        return has(groups, group or '-') and has(resources, resource, *(['*/' + below] if slash else []))
 
     return tuple(dict.fromkeys(
-        step.name for step in STEPS
-        if (is_in_cluster or not step.is_of_cluster) and (step.is_by_name or not is_named)
-        and ('*' in verbs or not set(step.verbs).isdisjoint(verbs))
-        and any(('*' in groups or group in groups) and has_resource(resource) for resource, group in step.types)))
+        name for name, of_verbs, types, where in STEPS if (is_in_cluster or 'cluster' not in where) and (not is_named or 'named' in where)
+        and has(verbs, *of_verbs.split()) and any(map(has_type, types.split()))))
 
 
 def powers_of(command: str, cells: Sequence[str]) -> tuple[str, ...]:
@@ -119,53 +99,38 @@ _WORD = r'(?:[^\\,\x00-\x1f\x7f]|\\(?:\\|x[0-9a-f]{2}))' + _REST.replace(r'[^\\'
 FIELD = r'(?=[^\t])' + _REST
 PRINCIPAL = '[ug]:' + FIELD
 # (names may have slashes, so it is enough that one of them parts two)
-ROLE = r'(?:ClusterRole/(?=[^\t])|Role/(?=[^\t]+/[^\t]))' + _REST
-BINDING = r'(?:ClusterRoleBinding/(?=[^\t])|RoleBinding/(?=[^\t]+/[^\t]))' + _REST
+ROLE, BINDING = (r'(?:Cluster{0}/(?=[^\t])|{0}/(?=[^\t]+/[^\t]))'.format(kind) + _REST for kind in ('Role', 'RoleBinding'))
 NUMBER = '[1-9][0-9]{0,17}'
 STEP = '(?:%s)' % '|'.join(STEP_NAMES)
 # What a field of each kind looks like. Fields of `any` may be *, which is no name then.
 KINDS = {
-    'text': FIELD, 'any': FIELD, 'detail': FIELD, 'who': PRINCIPAL, 'whose': '(?:%s|total)' % PRINCIPAL,
-    'node': r'(?:%s|\*|%s)' % (PRINCIPAL, ROLE), 'next': r'(?:%s|[-*]|%s)' % (PRINCIPAL, ROLE),
-    'binding': BINDING, 'bound': '(?:-|%s)' % BINDING, 'role': ROLE, 'held': '(?:-|%s)' % ROLE,
-    'number': NUMBER, 'count': '(?:0|%s)' % NUMBER, 'place': '(?:-|%s)' % NUMBER,
-    'list': r'\[(?:%s(?:,%s)*)?\]' % (_WORD, _WORD), 'code': 'L[1-9][0-9]*', 'sign': '[-+]',
-    'step': STEP, 'by': '(?:-|%s)' % STEP}
-
-
-@dataclass(frozen=True)
-class Field:
-    """A field of a line: its head in tables, its key in JSON, and its kind."""
-
-    head: str
-    kind: str
-    key: str
+    'text': FIELD, 'any': FIELD, 'detail': FIELD, 'who': PRINCIPAL, 'whose': '(?:%s|total)' % PRINCIPAL, 'binding': BINDING, 'role': ROLE,
+    'node': r'(?:%s|\*|%s)' % (PRINCIPAL, ROLE), 'next': r'(?:%s|[-*]|%s)' % (PRINCIPAL, ROLE), 'bound': '(?:-|%s)' % BINDING, 'held': '(?:-|%s)' % ROLE,
+    'number': NUMBER, 'count': '(?:0|%s)' % NUMBER, 'place': '(?:-|%s)' % NUMBER, 'list': r'\[(?:%s(?:,%s)*)?\]' % (_WORD, _WORD),
+    'code': 'L[1-9][0-9]*', 'sign': '[-+]', 'step': STEP, 'by': '(?:-|%s)' % STEP}
 
 
 @dataclass(frozen=True)
 class Shape:
-    """The lines of a command, and which of their fields says what they are about."""
-
+    """The lines of a command: which field says what they are about, and each field's head in tables, kind, and key in JSON."""
     command: str
     about: int
-    fields: tuple[Field, ...]
+    fields: tuple[tuple[str, str, str], ...]
 
     @functools.cached_property
     def pattern(self) -> re.Pattern[str]:
         """What a whole line looks like, field by field."""
-        return re.compile('\t'.join(KINDS[field.kind] for field in self.fields))
+        return re.compile('\t'.join(KINDS[kind] for _, kind, _ in self.fields))
 
     def cells_of(self, line: str) -> list[str]:
         """The fields of a line, or none if it isn't one of these."""
-        if not self.pattern.fullmatch(line):
-            return []
-        cells = line.split('\t')
-        return cells if len(cells) != 11 or tells_step(cells, self.command == 'paths') else []
+        cells = line.split('\t') if self.pattern.fullmatch(line) else []
+        return [] if len(cells) == 11 and not tells_step(cells, self.command == 'paths') else cells
 
 
 def _shape(command: str, about: int, fields: str) -> Shape:
     parts = ((word + '::').split(':')[:3] for word in fields.split())
-    return Shape(command, about, tuple(Field(head, kind or 'text', key or head.lower()) for head, kind, key in parts))
+    return Shape(command, about, tuple((head, kind or 'text', key or head.lower()) for head, kind, key in parts))
 
 
 _GRANT = 'BINDING:binding ROLE:role SOURCE:role RULE:number SUBJECT:number'
@@ -177,8 +142,7 @@ SHAPES = (
     _shape('can-i', 0, _GRANT),
     _shape('who-can', 0, 'WHO:who BINDING:binding'),
     _shape('who-can', 0, 'WHO:who ' + _GRANT),
-    _shape('rules', 0, _GRANT + ' VERBS:list GROUPS:list:api_groups RESOURCES:list NAMES:list:resource_names '
-           'URLS:list:non_resource_urls'),
+    _shape('rules', 0, _GRANT + ' VERBS:list GROUPS:list:api_groups RESOURCES:list NAMES:list:resource_names URLS:list:non_resource_urls'),
     _shape('matrix', 0, _ROW % ('', '')),
     _shape('lint', 2, _FINDING),
     _shape('lint', 2, _FINDING + ' FILE'),
@@ -186,10 +150,7 @@ SHAPES = (
     _shape('paths', 1, 'STEPS:number TO:node:who WHERE:any FROM:node WHERE:any:from_where STEP:step ' + _HELD),
     _shape('who-can --indirect', 1, 'STEPS:count WHO:node WHERE:any TO:next WHERE:any:to_where STEP:by ' + _HELD),
     _shape('diff', 1, 'CHANGE:sign ' + _ROW % (':any', ':any')),
-    _shape('diff --summary', 0, 'WHO:whose NAMESPACE:any BINDING:bound GAINED:count LOST:count POWERS_GAINED:list '
-           'POWERS_LOST:list'))
-
-
+    _shape('diff --summary', 0, 'WHO:whose NAMESPACE:any BINDING:bound GAINED:count LOST:count POWERS_GAINED:list POWERS_LOST:list'))
 # A row has its shape and its fields. What is no row, such as the last line of a matrix, has this shape and itself.
 Row = tuple[Shape, list[str]]
 REMARK = Shape('', 0, ())
@@ -197,42 +158,29 @@ REMARK = Shape('', 0, ())
 
 # ---- which of two commands
 
-def _is_principal(node: str) -> bool:
-    return node[:2] in ('u:', 'g:')
-
-
 def _is_node(node: str, where: str) -> bool:
-    return node != '-' and _is_principal(node) == (where == '-')
+    return node != '-' and node.startswith(('u:', 'g:')) == (where == '-')
 
 
-def _is_granted(node: str, grant: Sequence[str]) -> bool:
+def _has(node: str, grant: Sequence[str]) -> bool:
     """Whether a node has this grant: somebody by a binding, a role by its rules, and everything needs none."""
-    lacks = [cell == '-' for cell in grant]
-    if _is_principal(node):
-        return not any(lacks)
-    if node == '*':
-        return all(lacks)
-    return lacks == [True, False, False, False, True] and grant[1] == node
+    lacks = ''.join(str(int(cell == '-')) for cell in grant)
+    return lacks == ('00000' if node.startswith(('u:', 'g:')) else '11111' if node == '*' else '10001') and (lacks != '10001' or grant[1] == node)
 
 
-def _is_over(node: str, step: str) -> bool:
+def _is_over(step: str, node: str) -> bool:
     """Whether a step takes over such a node."""
-    if step == 'impersonate':
-        return _is_principal(node)
-    if step == 'bind':
-        return not _is_principal(node)
-    if step in ('escalate', 'certificates', 'webhooks'):
-        return node == '*'
-    return step != '-' and re.fullmatch('u:system:serviceaccount:[^:]+:[^:]+', node) is not None
+    if step in ('impersonate', 'bind'):
+        return node.startswith(('u:', 'g:')) == (step == 'impersonate')
+    return node == '*' if step in ('escalate', 'certificates', 'webhooks') else bool(re.fullmatch('u:system:serviceaccount:[^:]+:[^:]+', node))
 
 
 def tells_step(cells: Sequence[str], is_of_paths: bool) -> bool:
-    """Whether a line of paths, or of who-can --indirect, tells how a node takes over another or, with the number 0,
-    why it allows the request itself. Only so can the lines of the two commands be told apart."""
-    first, second, step = cells[1:3], cells[3:5], cells[5]
-    taken, taker = (first, second) if is_of_paths else (second, first)
-    if not _is_node(*taker) or not _is_granted(taker[0], cells[6:]):
+    """Whether a line of paths, or of who-can --indirect, tells how a node takes over another or, with the number 0, why it allows the request itself.
+    Only so can the lines of the two commands be told apart."""
+    taken, taker = (cells[1:3], cells[3:5]) if is_of_paths else (cells[3:5], cells[1:3])
+    if not _is_node(*taker) or not _has(taker[0], cells[6:]):
         return False
     if cells[0] == '0':
-        return [*taken, step] == ['-', '-', '-']
-    return _is_node(*taken) and _is_over(taken[0], step)
+        return [*taken, cells[5]] == ['-', '-', '-']
+    return cells[5] != '-' and _is_node(*taken) and _is_over(cells[5], taken[0])

@@ -21,14 +21,12 @@ from contextlib import suppress
 
 from .errors import Refused
 from .escapes import escape_title, script_class
-from .page_data import (CHANGE, FINDING, MOST_ROWS, NAMED, NOTICE, PROGRAM, TYPE, Answers, about, coded, listed,
-                        matrix_rows)
-from .terminal import is_terminal, report
+from .page_data import CHANGE, FINDING, MOST_ROWS, NAMED, NOTICE, PROGRAM, TYPE, Answers, about, coded, listed, matrix_rows
+from .terminal import Progress, is_terminal, report
 
 HERE = os.path.dirname(os.path.realpath(__file__))
 # The files of the page: in the sources, and where make install puts them.
-FOLDERS = [os.path.normpath(os.path.join(HERE, *names)) for names in (
-    ('..', '..', 'page'), ('..', '..', '..', 'share', 'rbacaudit', 'page'))]
+FOLDERS = [os.path.normpath(os.path.join(HERE, names)) for names in ('../../page', '../../../share/rbacaudit/page')]
 SCRIPTS = ('data.js', 'scopes.js', 'facts.js', 'tables.js', 'views.js', 'paths.js', 'watch.js', 'grid.js', 'main.js')
 ABOUT = """\
 Write rows of rbacaudit matrix as one HTML file: who has what, what is worth watching, and all rows,
@@ -61,9 +59,8 @@ def read_options(words: Sequence[str]) -> argparse.Namespace:
                                      formatter_class=argparse.RawDescriptionHelpFormatter)
     for name, value, text in OPTIONS:
         parser.add_argument('--' + name, metavar=value, help=text, action='append' if name == 'paths' else 'store',
-                            default='Who can do what' if name == 'title' else None)
-    parser.add_argument('--watched', action='store_true',
-                        help='print the watch list: step, verb, API group and resource')
+                            default={'title': 'Who can do what', 'paths': []}.get(name))
+    parser.add_argument('--watched', action='store_true', help='print the watch list: step, verb, API group and resource')
     return parser.parse_args(words)
 
 
@@ -72,17 +69,14 @@ def read_options(words: Sequence[str]) -> argparse.Namespace:
 def part(name: str) -> str:
     """The text of a file of the page."""
     for folder in FOLDERS:
-        path = os.path.join(folder, name)
-        if os.path.isfile(path):
-            with open(path, encoding='utf-8') as file:
-                return file.read()
+        with suppress(FileNotFoundError), open(os.path.join(folder, name), encoding='utf-8') as file:
+            return file.read()
     raise Refused('there is no %s in %s: make install puts it there' % (name, ' or '.join(FOLDERS)))
 
 
 def watched() -> list[tuple[str, str, str, str]]:
     """What is watched: the step, the verb, the API group and the resource of each pair, as fields."""
-    return [(step['id'], verb, group or '-', resource) for step in json.loads(part('watched.json'))
-            for verbs, types, *_ in step['pairs']
+    return [(step['id'], verb, group or '-', resource) for step in json.loads(part('watched.json')) for verbs, types, *_ in step['pairs']
             for resource, _, group in (type_.partition('.') for type_ in types) for verb in verbs]
 
 
@@ -93,48 +87,43 @@ def hash_of(text: str) -> str:
 
 def json_text(value: object) -> str:
     """JSON for a script element: ASCII alone, and nothing that HTML could take for markup."""
-    text = json.dumps(value, separators=(',', ':'))
-    return text.replace('<', '\\u003c').replace('>', '\\u003e').replace('&', '\\u0026')
+    return json.dumps(value, separators=(',', ':')).replace('<', '\\u003c').replace('>', '\\u003e').replace('&', '\\u0026')
 
 
 # ---- the page
 
 def beside(given: argparse.Namespace) -> dict[str, object]:
     """What is shown beside the rows: nothing where no file is given."""
-    def split(path: str | None, form: re.Pattern[str], what: str) -> list[list[str]] | None:
-        return None if path is None else [line.split('\t') for line in listed(path, form, what)]
+    def lines(path: str | None, form: re.Pattern[str], what: str) -> list[str] | None:
+        return None if path is None else listed(path, form, what)
 
     answers = Answers()
-    found: dict[str, object] = {
-        'findings': split(given.lint, FINDING, 'rbacaudit lint'),
-        'changes': None if given.diff is None else coded(listed(given.diff, CHANGE, 'changes'), 8)}
-    for path in given.paths or ():
+    for path in given.paths:
         answers.read(path)
-    found['paths'] = answers.coded() if given.paths else None
-    found['named'] = None if given.named is None else coded(named_holders(given.named), 5)
-    found['namespaced'] = split(given.namespaced, TYPE, 'API group and resource')
-    found['notices'] = [] if given.notices is None else listed(given.notices, NOTICE, 'text')
-    found['about'] = {} if given.about is None else about(given.about)
-    return found
-
-
-def named_holders(path: str) -> list[str]:
-    """The lines of --named. One that the watch list isn't about would be lost."""
-    lines, known = listed(path, NAMED, 'holders by name'), {pair[1:] for pair in watched()}
-    for number, line in enumerate(lines, 1):
+    findings, changes = lines(given.lint, FINDING, 'rbacaudit lint'), lines(given.diff, CHANGE, 'changes')
+    named, types = lines(given.named, NAMED, 'holders by name'), lines(given.namespaced, TYPE, 'API group and resource')
+    known = {pair[1:] for pair in watched()} if named else set()
+    for number, line in enumerate(named or (), 1):
+        # (one that the watch list isn't about would be lost)
         if tuple(line.split('\t')[:3]) not in known:
-            raise Refused('%s line %d: the watch list lacks this verb and resource: rbacaudit-page --watched prints all '
-                          'that it has' % (path, number))
-    return lines
+            raise Refused('%s line %d: the watch list lacks this verb and resource: rbacaudit-page --watched prints all that it has'
+                          % (given.named, number))
+
+    def split(lines: list[str] | None) -> list[list[str]] | None:
+        return None if lines is None else [line.split('\t') for line in lines]
+
+    return {'findings': split(findings), 'changes': None if changes is None else coded(changes, 8),
+            'paths': answers.coded() if given.paths else None, 'named': None if named is None else coded(named, 5),
+            'namespaced': split(types), 'notices': lines(given.notices, NOTICE, 'text') or [],
+            'about': {} if given.about is None else about(given.about)}
 
 
 def page(title: str, data: dict[str, object]) -> str:
     """The whole page, as text."""
-    data = {**data, 'watched': json.loads(part('watched.json')), 'cluster': json.loads(part('cluster.json')),
-            'unseen': script_class()}
     style, script = part('page.css'), ''.join(map(part, SCRIPTS))
+    fixed = {'watched': json.loads(part('watched.json')), 'cluster': json.loads(part('cluster.json')), 'unseen': script_class()}
     parts = {'title': html.escape(escape_title(title)), 'style': style, 'style-hash': hash_of(style), 'script': script,
-             'script-hash': hash_of(script), 'data': json_text(data)}
+             'script-hash': hash_of(script), 'data': json_text({**data, **fixed})}
     return re.sub(r'\{\{([a-z-]+)\}\}', lambda found: parts[found[1]], part('page.html'))
 
 
@@ -145,27 +134,21 @@ def made(given: argparse.Namespace, lines: Iterable[bytes] | None) -> str:
     if lines is None and is_terminal(0) or given.output is None and is_terminal(1):
         raise Refused('rows come from a pipe or a file, and the page goes into a file: '
                       'rbacaudit matrix --once *.json | rbacaudit-page --output access.html')
-    if given.output is not None:
-        check_output(given.output)
-    data = beside(given)
-    if lines is not None:
-        rows, is_whole = matrix_rows(lines)
-    else:
-        with open(0, 'rb', closefd=False) as file:
-            rows, is_whole = matrix_rows(file)
+    # (a file that can't be written is refused before rows are read for it)
+    if given.output is not None and os.path.isdir(given.output):
+        raise Refused('%s is a folder: name a file in it' % given.output)
+    folder = os.path.dirname(os.path.realpath(given.output or '.'))
+    if not os.path.isdir(folder):
+        raise Refused('there is no folder %s for the page' % folder)
+    data, progress = beside(given), Progress(PROGRAM, 40)
+    try:
+        rows, is_whole = matrix_rows(open(0, 'rb', closefd=False) if lines is None else lines, progress)
+    finally:
+        progress.erase()
     return page(given.title, {'whole': is_whole, 'rows': coded(rows, 7), **data})
 
 
 # ---- what is written
-
-def check_output(path: str) -> None:
-    """Refuses a file that can't be written, before rows are read for it."""
-    folder = os.path.dirname(os.path.realpath(path))
-    if os.path.isdir(path):
-        raise Refused('%s is a folder: name a file in it' % path)
-    if not os.path.isdir(folder):
-        raise Refused('there is no folder %s for the page' % folder)
-
 
 def replace(path: str, data: bytes) -> None:
     """Puts data in the place of a file, whole or not at all; what is no file, such as a pipe, is written to."""
@@ -186,15 +169,6 @@ def replace(path: str, data: bytes) -> None:
             os.remove(new)
 
 
-def write(given: argparse.Namespace, data: bytes) -> None:
-    """Writes what was asked for to where it was asked for."""
-    if given.output is not None and not given.watched:
-        replace(given.output, data)
-        return
-    with open(1, 'wb', closefd=False) as out:
-        out.write(data)
-
-
 def stop(number: int, _: object) -> None:
     """Ends by a signal, so that nothing half written stays behind."""
     sys.exit(128 + number)
@@ -207,14 +181,15 @@ def main(words: Sequence[str], rows: Iterable[bytes] | None = None) -> int:
     given = read_options(words)
     try:
         data = made(given, rows).encode()
-    except Refused as refusal:
-        report(str(refusal), PROGRAM)
-        return 2
-    except OSError as fault:
-        report('%s: %s' % (fault.filename or 'standard input', fault.strerror), PROGRAM)
+    except (Refused, OSError) as fault:
+        report('%s: %s' % (fault.filename or 'standard input', fault.strerror) if isinstance(fault, OSError) else str(fault), PROGRAM)
         return 2
     try:
-        write(given, data)
+        if given.output is not None and not given.watched:
+            replace(given.output, data)
+        else:
+            with open(1, 'wb', closefd=False) as out:
+                out.write(data)
     except OSError as fault:
         report("the %s can't be written: %s" % ('watch list' if given.watched else 'page', fault.strerror), PROGRAM)
         return 2

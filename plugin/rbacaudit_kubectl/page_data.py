@@ -8,7 +8,6 @@ import re
 import sys
 from array import array
 from collections.abc import Iterable, Iterator, Sequence
-from dataclasses import dataclass, field
 
 from .errors import Refused
 from .fields import BINDING, FIELD, PRINCIPAL, ROLE, STEP
@@ -16,15 +15,11 @@ from .terminal import Progress
 
 PROGRAM = 'rbacaudit-page'
 MOST_ROWS = 500_000
-EACH = 20_000  # how many rows a line of progress is drawn after
-
+EACH = 20_000   # how many rows are read between two texts of a line of progress
 _ROW = PRINCIPAL + '(?:\t%s){5}\t(?:Cluster)?RoleBinding/%s' % (FIELD, FIELD)
-ROW = re.compile(_ROW)
-CHANGE = re.compile('[+-]\t' + _ROW)
-FINDING = re.compile('%s(?:\t%s){4}' % (FIELD, FIELD))
-NAMED = re.compile('(?:%s\t){3}%s\t%s' % (FIELD, PRINCIPAL, BINDING))
-TYPE = re.compile('%s\t%s' % (FIELD, FIELD))
-NOTICE = re.compile(r'[^\x00-\x08\x0a-\x1f\x7f]+')
+ROW, CHANGE = re.compile(_ROW), re.compile('[+-]\t' + _ROW)
+FINDING, TYPE = re.compile('%s(?:\t%s){4}' % (FIELD, FIELD)), re.compile('%s\t%s' % (FIELD, FIELD))
+NAMED, NOTICE = re.compile('(?:%s\t){3}%s\t%s' % (FIELD, PRINCIPAL, BINDING)), re.compile(r'[^\x00-\x08\x0a-\x1f\x7f]+')
 ABOUT = re.compile('(context|server|version|time|only): (.+)')
 
 
@@ -59,44 +54,38 @@ def about(path: str) -> dict[str, str]:
         return {found[1]: found[2] for found in map(ABOUT.fullmatch, file.read().split('\n')) if found}
 
 
-def matrix_rows(lines: Iterable[bytes]) -> tuple[list[str], bool]:
+def matrix_rows(lines: Iterable[bytes], progress: Progress) -> tuple[list[str], bool]:
     """The rows of a matrix, and whether its last line says that they are all; without such a line it is refused."""
     found: list[str] = []
-    last, progress = '', Progress(PROGRAM, 40)
-    try:
-        for place, line in lines_of(lines, 'standard input'):
-            if last:
-                raise Refused('%s: follows the last line of a matrix, %s: give one matrix' % (place, last.split('\t')[0]))
-            if line == 'end' or line.startswith('next\t'):
-                last = line
-                continue
-            if not ROW.fullmatch(line):
-                raise Refused(place + ': no row of a matrix')
-            if len(found) == MOST_ROWS:
-                raise Refused('there are more than %d rows, too many for a page: %s' % (MOST_ROWS, advice(found)))
-            found.append(line)
-            if len(found) % EACH == 0:
-                progress.draw('{:,} rows read'.format(len(found)))
-    finally:
-        progress.erase()
+    last = ''
+    for place, line in lines_of(lines, 'standard input'):
+        if last:
+            raise Refused('%s: follows the last line of a matrix, %s: give one matrix' % (place, last.split('\t')[0]))
+        if line == 'end' or line.startswith('next\t'):
+            last = line
+            continue
+        if not ROW.fullmatch(line):
+            raise Refused(place + ': no row of a matrix')
+        if len(found) == MOST_ROWS:
+            raise Refused('there are more than %d rows, too many for a page: %s' % (MOST_ROWS, advice([row.split('\t') for row in found])))
+        found.append(line)
+        if len(found) % EACH == 0:
+            progress.draw('{:,} rows read'.format(len(found)))
     if not last:
         raise Refused('standard input has no last line, end or next, so rows may be missing: did rbacaudit matrix fail? '
                       'A filter before the page has to let that line through')
     return found, last == 'end'
 
 
-def advice(rows: Sequence[str]) -> str:
+def advice(rows: Sequence[Sequence[str]]) -> str:
     """What makes rows fewer that are too many for a page."""
-    fields = [row.split('\t') for row in rows]
-    if any(row[1] != '-' and row[6].startswith('ClusterRoleBinding/') for row in fields):
+    if any(row[1] != '-' and row[6].startswith('ClusterRoleBinding/') for row in rows):
         return 'matrix --once lists once what holds in the whole cluster'
-    if any(row[5] != '-' for row in fields):
+    if any(row[5] != '-' for row in rows):
         return 'leave out the names of objects, by "names": [""] in a Universe document'
-    return ('make the page of one namespace, as kubectl rbacaudit page -n NS does, or a Universe document with fewer '
-            'principals, namespaces or resources')
+    return ('make the page of one namespace, as kubectl rbacaudit page -n NS does, or a Universe document with fewer principals, namespaces or '
+            'resources')
 
-
-# ---- coding
 
 def coded(lines: Sequence[str], fields: int) -> dict[str, object]:
     """Lines as a list of words for each field, and a column of places in it, in base64."""
@@ -115,11 +104,9 @@ def coded(lines: Sequence[str], fields: int) -> dict[str, object]:
 # ---- paths
 
 PATHS, WAYS = 'rbacaudit paths', 'rbacaudit who-can --indirect'
-PLACE = '[1-9][0-9]{0,8}'
-WHERE = r'(?!-\t)' + FIELD
+PLACE, WHERE = '[1-9][0-9]{0,8}', r'(?!-\t)' + FIELD
 # Whoever takes over another, with the grant that allows it: a user or a group, a role, and everything.
-HOLDERS = ((PRINCIPAL + '\t-', (BINDING, ROLE, ROLE, PLACE, PLACE)),
-           ('%s\t%s' % (ROLE, WHERE), ('-', ROLE, ROLE, PLACE, '-')),
+HOLDERS = ((PRINCIPAL + '\t-', (BINDING, ROLE, ROLE, PLACE, PLACE)), ('%s\t%s' % (ROLE, WHERE), ('-', ROLE, ROLE, PLACE, '-')),
            (r'\*\t' + WHERE, ('-',) * 5))
 
 
@@ -132,84 +119,60 @@ def path_forms() -> dict[str, re.Pattern[str]]:
     return {PATHS: re.compile('%s\t%s\t(?:%s)' % (PLACE, node, taken)), WAYS: re.compile('%s|%s' % (own, taking))}
 
 
-@dataclass
-class Answer:
-    """One answer: of paths about a principal, or of who-can --indirect, by the name of its file."""
-
-    name: str | None
-    about: str
-    first: int
-    steps: dict[str, int]  # how far each node so far is
-    most: int = 0
-
-    def ends(self, steps: int, other: str) -> bool:
-        """Whether a line of paths is of the next answer."""
-        return self.name is None and steps == 1 and (other != self.about or self.most > 1)
-
-    def take(self, steps: int, node: str, other: str) -> str:
-        """Takes a line, or says why it can't follow the others: the page leads from it to a line above."""
-        if steps < self.most or steps and self.steps.get(other) != steps - 1:
-            return 'no line above is one step nearer: give all lines that were printed, in their order'
-        if node in self.steps:
-            return 'the same as a line above'
-        self.steps[node] = self.most = steps
-        return ''
-
-
-@dataclass
 class Answers:
     """What the files after --paths have: all lines, which of them are one answer, and the files without lines."""
 
-    lines: list[str] = field(default_factory=list)
-    found: list[Answer] = field(default_factory=list)
-    empty: list[str] = field(default_factory=list)
-    asked: dict[str, str] = field(default_factory=dict)
-    forms: dict[str, re.Pattern[str]] = field(default_factory=path_forms)
+    def __init__(self) -> None:
+        self.forms, self.lines, self.empty = path_forms(), list[str](), list[str]()
+        self.found: list[tuple[str | None, str, int]] = []  # the file's name, if it is one of who-can; about whom it is, if not; its first line
+        self.asked: dict[str, str] = {}     # where the answer about each principal begins
+        self.steps: dict[str, int] = {}     # of the last answer: how far each node so far is
+        self.most = 0
 
     def read(self, path: str) -> None:
         """Reads a file: of paths, one answer or several; or of who-can --indirect, whose first line has no steps."""
         if path == '-':
             raise Refused('--paths -: standard input has the rows: write the lines into a file')
-        form, answer = '', None
+        form, before = '', len(self.lines)
         with open(path, 'rb') as file:
             for place, line in lines_of(file, path):
                 kind = form or (WAYS if line.startswith('0\t') else PATHS)
                 if not self.forms[kind].fullmatch(line):
                     raise Refused('%s: no line of %s' % (place, form or 'rbacaudit paths or who-can --indirect'))
+                if len(self.lines) == MOST_ROWS:
+                    raise Refused('%s: --paths has more than %d lines, too many for a page: give the paths of fewer principals, or some steps of them, '
+                                  'by paths --steps' % (place, MOST_ROWS))
+                number, node, where, other, there = line.split('\t', 5)[:5]
+                is_first, other = not form, other + '\t' + there
+                if is_first or kind == PATHS and number == '1' and (other != self.found[-1][1] or self.most > 1):
+                    self.begin(os.path.basename(path) if kind == WAYS else None, other, place)
                 form = kind
-                answer = self.take(line, os.path.basename(path) if form == WAYS else None, answer, place)
-        if answer is None:
+                self.take(line, int(number), node + '\t' + where, other, place)
+        if len(self.lines) == before:
             self.empty.append(os.path.basename(path))
 
-    def take(self, line: str, name: str | None, answer: Answer | None, place: str) -> Answer:
-        """Takes a line of the answer, or of the next one, and gives that."""
-        number, *nodes = line.split('\t', 5)[:5]
-        steps, node, other = int(number), '\t'.join(nodes[:2]), '\t'.join(nodes[2:])
-        if len(self.lines) == MOST_ROWS:
-            raise Refused('%s: --paths has more than %d lines, too many for a page: give the paths of fewer principals, or '
-                          'some steps of them, by paths --steps' % (place, MOST_ROWS))
-        if answer is None or answer.ends(steps, other):
-            answer = self.begin(name, other, place)
-        fault = answer.take(steps, node, other)
-        if fault:
-            raise Refused('%s: %s' % (place, fault))
-        self.lines.append(line)
-        return answer
-
-    def begin(self, name: str | None, other: str, place: str) -> Answer:
-        """A new answer; one of paths is about a principal that no other answer is about."""
+    def begin(self, name: str | None, other: str, place: str) -> None:
+        """Begins an answer; one of paths is about a principal that no other answer is about."""
         if name is None and not other.endswith('\t-'):
             raise Refused(place + ': no principal comes before this line')
         if name is None and other in self.asked:
             raise Refused('%s: the paths of this principal are there already, from %s on' % (place, self.asked[other]))
+        self.steps, self.most = {other: 0} if name is None else {}, 0
         if name is None:
             self.asked[other] = place
-        self.found.append(Answer(name, other, len(self.lines), {other: 0} if name is None else {}))
-        return self.found[-1]
+        self.found.append((name, other, len(self.lines)))
+
+    def take(self, line: str, steps: int, node: str, other: str, place: str) -> None:
+        """Takes a line of the last answer: the page leads from it to a line above."""
+        if steps < self.most or steps and self.steps.get(other) != steps - 1:
+            raise Refused(place + ': no line above is one step nearer: give all lines that were printed, in their order')
+        if node in self.steps:
+            raise Refused(place + ': the same as a line above')
+        self.steps[node] = self.most = steps
+        self.lines.append(line)
 
     def coded(self) -> dict[str, object]:
         """For the page. An answer has its file's name or whom it is about, its first line, and the one after its last."""
-        ends = [answer.first for answer in self.found[1:]] + [len(self.lines)]
-        return {'answers': [[answer.name, None if answer.name else answer.about.removesuffix('\t-'), answer.first, end]
-                            for answer, end in zip(self.found, ends)],
+        ends = [first for *_, first in self.found[1:]] + [len(self.lines)]
+        return {'answers': [[name, other.removesuffix('\t-') if name is None else None, first, end] for (name, other, first), end in zip(self.found, ends)],
                 'empty': self.empty, 'lines': coded(self.lines, 11)}

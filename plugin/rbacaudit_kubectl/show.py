@@ -84,7 +84,6 @@ UNKNOWN = ('no command of rbacaudit prints this: expected lines of can-i, who-ca
 @dataclass
 class Reader:
     """Knows of which command lines are. All have to be of one, and their rows of one shape."""
-
     is_indirect: bool = False   # whether lines that could also be of paths aren't
     command: str = ''
     shape: Shape | None = None
@@ -97,16 +96,15 @@ class Reader:
             if not cells and self.is_remark(line):
                 yield REMARK, [line]
                 continue
-            for shape in () if self.shape else self.candidates(line):
-                cells = shape.cells_of(line)
-                if cells:
+            for shape in () if self.shape else SHAPES:
+                is_meant = shape.command == self.command if self.command else not (self.is_indirect and shape.command == 'paths')
+                cells = cells or (shape.cells_of(line) if is_meant and len(shape.fields) == line.count('\t') + 1 else [])
+                if cells and not self.shape:
                     self.shape, self.command = shape, shape.command
-                    break
-            if not cells:
+            if not cells or not self.shape:
                 self.fault = 'standard input line %d: %s' % (number, self.fault_of(line))
                 return
-            if self.shape:
-                yield self.shape, cells
+            yield self.shape, cells
 
     def is_remark(self, line: str) -> bool:
         """Whether a line is a remark of the command, which it may be the first to tell."""
@@ -116,13 +114,6 @@ class Reader:
                 return True
         return False
 
-    def candidates(self, line: str) -> Iterator[Shape]:
-        """The shapes that a first row may have."""
-        for shape in SHAPES:
-            is_meant = shape.command == self.command if self.command else not (self.is_indirect and shape.command == 'paths')
-            if is_meant and len(shape.fields) == line.count('\t') + 1:
-                yield shape
-
     def fault_of(self, line: str) -> str:
         """What is wrong with a line, and what was expected."""
         if not self.command:
@@ -130,7 +121,7 @@ class Reader:
         shape = self.shape or next(shape for shape in SHAPES if shape.command == self.command)
         return 'no line of %s as before: expected %s%d fields: %s%s' % (
             self.command, 'yes, no, or ' if self.command == 'can-i' else '', len(shape.fields),
-            ' '.join(column.head for column in shape.fields), ', or end, or next and a token' if self.command == 'matrix' else '')
+            ' '.join(head for head, _, _ in shape.fields), ', or end, or next and a token' if self.command == 'matrix' else '')
 
 
 # ---- names and JSON
@@ -182,10 +173,10 @@ member_of_short = functools.lru_cache(maxsize=4096)(member_of)
 
 def keys_of(shape: Shape, cells: Sequence[str]) -> Iterator[tuple[str, str]]:
     """The key and the kind of each field of a line."""
-    for column in shape.fields:
+    for _, kind, key in shape.fields:
         # (the detail of these findings is the place of a rule or of a document)
-        is_place = column.kind == 'detail' and cells[0] in ('L3', 'L7') and re.fullmatch(NUMBER, cells[4])
-        yield column.key, 'number' if is_place else column.kind
+        is_place = kind == 'detail' and cells[0] in ('L3', 'L7') and re.fullmatch(NUMBER, cells[4])
+        yield key, 'number' if is_place else kind
 
 
 def objects_of(rows: Iterable[Row]) -> Iterator[str]:
@@ -204,20 +195,9 @@ def objects_of(rows: Iterable[Row]) -> Iterator[str]:
 
 # ---- the command
 
-@dataclass
-class Options:
-    """What is asked for."""
-
-    form: str = 'table'
-    has_head: bool = True
-    color: str = 'auto'
-    rules: str = ''     # the file after --rules
-    is_indirect: bool = False
-
-
-def read_options(words: Sequence[str]) -> Options:
-    """The words of the command line."""
-    options, left = Options(), [*words]
+def read_options(words: Sequence[str]) -> dict[str, str]:
+    """The words of the command line: the value of each option, by its name."""
+    found, left = {'-o': 'table', '--color': 'auto', '--rules': ''}, [*words]
     while left:
         word = left.pop(0)
         name, has_value, value = word.partition('=')
@@ -226,36 +206,27 @@ def read_options(words: Sequence[str]) -> Options:
         if word in ('-h', '--help', '-V', '--version'):
             print_text(USAGE if word in ('-h', '--help') else '%s %s\n' % (PROGRAM, VERSION))
             raise Ended(0)
-        if word == '--no-headers':
-            options.has_head = False
-        elif word == '--indirect':
-            options.is_indirect = True
+        if word in ('--no-headers', '--indirect'):
+            found[word] = 'yes'
         elif name in ('-o', '--output', '--color', '--rules'):
             if not has_value and not left:
                 raise Refused(name + (' needs a value' if name in ('--color', '--rules') else ' needs a format: table, wide, json or name'))
-            take_value(options, name.replace('--output', '-o'), value if has_value else left.pop(0))
+            found[name.replace('--output', '-o')] = value if has_value else left.pop(0)
+            check_values(found)
         elif len(word) > 1 and word.startswith('-'):
             raise Refused('there is no option %s; rbacaudit-show --help lists them' % word)
         else:
-            raise Refused('there is no word %s in this command: rbacaudit-show reads from a pipe, or from a file as in '
-                          'rbacaudit-show < FILE' % word)
-    return options
+            raise Refused('there is no word %s in this command: rbacaudit-show reads from a pipe, or from a file as in rbacaudit-show < FILE' % word)
+    return found
 
 
-def take_value(options: Options, name: str, value: str) -> None:
-    """Takes the value of an option."""
-    if name == '--rules':
-        options.rules = value
-        if not os.path.isfile(value) or not os.access(value, os.R_OK):
-            raise Refused("can't read " + value)
-        return
-    what, *choices = CHOICES[name]
-    if value not in choices:
-        raise Refused('there is no %s %s: %s takes %s or %s' % (what, value, name, ', '.join(choices[:-1]), choices[-1]))
-    if name == '-o':
-        options.form = value
-    else:
-        options.color = value
+def check_values(found: Mapping[str, str]) -> None:
+    """Refuses values that mean nothing."""
+    for name, (what, *choices) in CHOICES.items():
+        if found[name] not in choices:
+            raise Refused('there is no %s %s: %s takes %s or %s' % (what, found[name], name, ', '.join(choices[:-1]), choices[-1]))
+    if found['--rules'] and (not os.path.isfile(found['--rules']) or not os.access(found['--rules'], os.R_OK)):
+        raise Refused("can't read " + found['--rules'])
 
 
 def width_of_screen(environment: Mapping[str, str]) -> int:
@@ -307,10 +278,11 @@ def run(words: Sequence[str]) -> int:
     options, rules = read_options(words), ''
     if is_terminal(0):
         raise Refused('lines come from a pipe or a file: rbacaudit rules u:kim *.json | rbacaudit-show')
-    if options.rules:
-        with open(options.rules, encoding='utf-8', errors='surrogateescape', newline='\n') as file:
+    if options['--rules']:
+        with open(options['--rules'], encoding='utf-8', errors='surrogateescape', newline='\n') as file:
             rules = file.read()
-    return show(lines_in(0), options.form, headers=options.has_head, color=options.color, rules=rules, indirect=options.is_indirect)
+    return show(lines_in(0), options['-o'], headers='--no-headers' not in options, color=options['--color'], rules=rules,
+                indirect='--indirect' in options)
 
 
 def main(words: Sequence[str]) -> int:

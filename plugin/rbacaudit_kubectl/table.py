@@ -66,7 +66,6 @@ def codes_of(command: str, cells: Sequence[str]) -> str:
 @dataclass
 class Table:
     """How a table is written, and the rules whose words stand below rows: their lists by source and place."""
-
     has_head: bool = True
     is_painted: bool = False
     is_on_terminal: bool = False
@@ -107,7 +106,7 @@ class Table:
 
     def begin(self, rows: Sequence[Row]) -> tuple[list[int], list[str]]:
         """The widths of columns that the first rows tell, and the head with these rows."""
-        heads = [[column.head for column in shape.fields] for shape, _ in rows[:1] if self.has_head]
+        heads = [[head for head, _, _ in shape.fields] for shape, _ in rows[:1] if self.has_head]
         widths = [min(max(map(columns_of, column)), WIDEST) for column in zip(*heads, *(cells for _, cells in rows))]
         if self.screen and rows:
             widths = narrowed(widths, self.screen)

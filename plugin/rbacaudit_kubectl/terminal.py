@@ -51,7 +51,6 @@ def has_colors(when: str, environment: Mapping[str, str]) -> bool:
 @dataclass
 class Progress:
     """A line on a terminal that says how far something is, and goes away."""
-
     prefix: str = PLUGIN
     room: int = 60
     is_drawn: bool = False
