@@ -127,5 +127,5 @@ TEXTS = {'': (MAIN, OWN + SHOWN, 21), 'export': (EXPORT, OF_EXPORT, 20), 'diff':
 def help_of(command: str) -> str:
     """What --help of a command prints; a command without a text of its own has that of the plugin."""
     text, options, width = TEXTS.get(command, TEXTS[''])
-    commands = '\n'.join('  kubectl rbacaudit %-36s  %s' % ('%s %s' % (name, it.usage), it.help) for name, it in COMMANDS.items())
+    commands = '\n'.join('  kubectl rbacaudit %-36s  %s' % ('%s %s' % (name, it.usage), it.text) for name, it in COMMANDS.items())
     return text.replace('{commands}', commands).replace('{options}', '\n'.join(described(options, width)))

@@ -66,10 +66,8 @@ SCOPE = '--namespace --all-namespaces --in-namespace --subresource '
 
 @dataclass(frozen=True)
 class Command:
-    """A command: how it is written and what it does, for help; that for completions; its places, of which FILE stands for any number;
-    and its options."""
+    """A command: how it is written, what it does, its places, of which FILE stands for any number, and its options."""
     usage: str
-    help: str
     text: str
     places: str = ''
     passed: str = ''
@@ -81,25 +79,20 @@ class Command:
 
 
 COMMANDS: dict[str, Command] = {
-    'can-i': Command('--as USER [-n NS] VERB TARGET', 'may USER do that: yes (exit status 0) or no (1)', 'Check whether USER may VERB TARGET',
-                     'VERB TARGET FILE', '--as --groups --group --quiet --why ' + SCOPE),
-    'who-can': Command('[-n NS] VERB TARGET', 'who may do that; with --indirect, by taking over others too', 'List who may VERB TARGET',
-                       'VERB TARGET FILE', SCOPE + '--anywhere --any-name --every --why --indirect --steps'),
-    'rules': Command('[-n NS] WHO', 'which rules the user u:NAME or the group g:NAME has', 'List the rules that WHO has',
-                     'WHO FILE', '--groups --group --namespace --all-namespaces'),
-    'matrix': Command('[FILE]..', 'everything that anyone may do', 'List everything that anyone may do', 'FILE', '--every --once --after --limit'),
-    'powers': Command('[FILE]..', 'who can act as others or gain permissions', 'List who can act as others or gain permissions', 'FILE'),
-    'paths': Command('WHO', 'whom and what u:NAME or g:NAME can take over, step by step', 'List whom and what WHO can take over',
-                     'WHO FILE', '--groups --group --steps'),
-    'lint': Command('[PATH]..', 'what looks wrong with roles and bindings: status 1 if any', 'List what looks wrong with roles, bindings and other objects',
-                    'FILE', '--only --skip-system'),
-    'diff': Command('--export OLD --export NEW', 'permissions gained and lost: status 1 if any (diff --help)',
-                    'List the permissions that a change gives or takes away', own=OF_DIFF + OWN + SHOWN),
-    'read': Command('PATH..', 'manifests as JSON, for rbacaudit (read --help)', 'Print manifests as one List in JSON', 'FILE', own=OF_READ),
-    'universe': Command('', 'a Universe document to start from, for matrix', 'Print a Universe document to start from', own=OWN),
-    'page': Command('--output access.html', 'all of it as a page for a browser (page --help)', 'Write all of it as one HTML file, to look at',
-                    'FILE', own=OF_PAGE + OWN),
-    'export': Command('DIR', 'keep the files, for many questions (export --help)', 'Write what rbacaudit reads into a folder', 'DIR', own=OF_EXPORT)}
+    'can-i': Command('--as USER [-n NS] VERB TARGET', 'may USER do that: yes (exit status 0) or no (1)', 'VERB TARGET FILE',
+                     SCOPE + '--as --groups --group --quiet --why'),
+    'who-can': Command('[-n NS] VERB TARGET', 'who may do that; with --indirect, by taking over others too', 'VERB TARGET FILE',
+                       SCOPE + '--anywhere --any-name --every --why --indirect --steps'),
+    'rules': Command('[-n NS] WHO', 'which rules the user u:NAME or the group g:NAME has', 'WHO FILE', '--groups --group --namespace --all-namespaces'),
+    'matrix': Command('[FILE]..', 'everything that anyone may do', 'FILE', '--every --once --after --limit'),
+    'powers': Command('[FILE]..', 'who can act as others or gain permissions', 'FILE'),
+    'paths': Command('WHO', 'whom and what u:NAME or g:NAME can take over, step by step', 'WHO FILE', '--groups --group --steps'),
+    'lint': Command('[PATH]..', 'what looks wrong with roles and bindings: status 1 if any', 'FILE', '--only --skip-system'),
+    'diff': Command('--export OLD --export NEW', 'permissions gained and lost: status 1 if any (diff --help)', own=OF_DIFF + OWN + SHOWN),
+    'read': Command('PATH..', 'manifests as JSON, for rbacaudit (read --help)', 'FILE', own=OF_READ),
+    'universe': Command('', 'a Universe document to start from, for matrix', own=OWN),
+    'page': Command('--output access.html', 'all of it as a page for a browser (page --help)', 'FILE', own=OF_PAGE + OWN),
+    'export': Command('DIR', 'keep the files, for many questions (export --help)', 'DIR', own=OF_EXPORT)}
 FORMATS = ('table', 'wide', 'json', 'name', 'tsv')
 VALUES = {'--color': ('auto', 'always', 'never'), '--fail-on': ('changes', 'gains', 'powers')}
 PATHS = ('--with', '--without', '--from', '--to')
@@ -168,24 +161,23 @@ def tokens_of(command: str, words: list[str]) -> Iterator[Token]:
         if literal or not word.startswith('-') or word == '-':
             yield Token([word])
             continue
-        literal, is_long = word == '--', word.startswith('--')
+        literal = word == '--'
+        # (letters such as those of -qAn)
+        while not word.startswith('--') and word[2:] and word[:2] in known and not known[word[:2]].value:
+            yield Token([word[:2]], known[word[:2]], word[:2], '')
+            word = '-' + word[2:]
         name, equals, value = word.partition('=')
-        rest = '' if is_long else word[1:]
-        while rest or is_long:
-            # (letters such as -qAn; what stands behind one with a value is the value: -nshop, or -n=shop)
-            name, rest, is_long = (name, '', False) if is_long else ('-' + rest[0], rest[1:], False)
-            option = known.get(name)
-            if option and option.value and rest:
-                equals, value, rest = '=', rest[1:] if rest[0] == '=' else rest, ''
-            if option is None or (equals and not option.value and name.startswith('--')):
-                yield Token([name + rest if not name.startswith('--') else word], None, word)
-                rest = ''
-            elif not option.value or equals:
-                yield Token([name + (equals and '=' + value) * bool(option.value)], option, name, value)
-            else:
-                apart = left[:1]
-                del left[:1]
-                yield Token([name, *apart], option, name, *apart)
+        if not word.startswith('--') and word[2:] and word[2] != '=':
+            name, equals, value = word[:2], '=', word[2:]   # -nshop
+        option = known.get(name)
+        if option is None or (equals and not option.value):
+            yield Token([word], None, word)
+        elif equals or not option.value:
+            yield Token([name + (equals and '=' + value)], option, name, value)
+        else:
+            apart = left[:1]
+            del left[:1]
+            yield Token([name, *apart], option, name, *apart)
 
 
 def safe_path(path: str) -> str:
