@@ -51,17 +51,19 @@ words:
 
 # The completions and the man page go where each shell and man look; the files of the page where rbacaudit-page looks.
 SHARE = $(DESTDIR)$(PREFIX)/share
+# (the package is compiled there if that goes: who may not write into the folder would compile it at each start)
+HULL = $(DESTDIR)$(PREFIX)/lib/rbacaudit/rbacaudit_kubectl
 
 # (what is built isn't built again, so that `sudo make install` after `make build` neither needs rt nor proves all of it for root,
 # for whom the kit keeps nothing of what it has proved for another user)
 install: $(shell $(IS_BUILT) || echo build)
 	install -d $(DESTDIR)$(PREFIX)/bin $(SHARE)/bash-completion/completions $(SHARE)/zsh/site-functions \
-	    $(SHARE)/fish/vendor_completions.d $(SHARE)/man/man1 $(DESTDIR)$(PREFIX)/lib/kubectl-rbacaudit \
-	    $(SHARE)/rbacaudit/page
+	    $(SHARE)/fish/vendor_completions.d $(SHARE)/man/man1 $(HULL) $(SHARE)/rbacaudit/page
 	install -m 755 $(PROGRAM) $(DESTDIR)$(PREFIX)/bin/rbacaudit
 	install -m 755 plugin/kubectl-rbacaudit $(DESTDIR)$(PREFIX)/bin/kubectl-rbacaudit
 	install -m 755 plugin/kubectl_complete-rbacaudit $(DESTDIR)$(PREFIX)/bin/kubectl_complete-rbacaudit
-	install -m 644 plugin/kubectl-rbacaudit.d/*.sh $(DESTDIR)$(PREFIX)/lib/kubectl-rbacaudit
+	install -m 644 plugin/rbacaudit_kubectl/*.py $(HULL)
+	@python3 -m compileall -q $(HULL) >/dev/null 2>&1 || true
 	install -m 755 plugin/rbacaudit-page $(DESTDIR)$(PREFIX)/bin/rbacaudit-page
 	install -m 755 plugin/rbacaudit-show $(DESTDIR)$(PREFIX)/bin/rbacaudit-show
 	install -m 644 page/* $(SHARE)/rbacaudit/page

@@ -21,4 +21,6 @@ done
 find PROVED.txt README.md bench docs examples -type f | while IFS= read -r file; do
     put 644 "$file" "share/doc/rbacaudit/$file"
 done
+# (compiled, the plugin starts sooner, also for who may not write there)
+python3 -m compileall -q "$to/lib/rbacaudit" >/dev/null 2>&1 || true
 echo "rbacaudit is installed: $to/bin/rbacaudit"

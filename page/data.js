@@ -106,10 +106,9 @@ function meaning(word, field) {
     return word === '-' ? EMPTY[field] || '' : textOf(word);
 }
 
-// Characters that can't be seen, or change how their neighbours are shown: control, format and
-// ignorable ones, odd blanks, and a blank at an end or beside another.
-const UNSEEN = new RegExp('[\\p{Cc}\\p{Cf}\\p{Cs}\\p{Zl}\\p{Zp}\\p{Default_Ignorable_Code_Point}'
-    + '\\u2800]|(?! )\\p{Zs}|(?<![^ ]) | (?![^ ])', 'gu');
+// Characters that can't be seen, or change how their neighbours are shown: those of the table that the
+// plugin escapes by, and a blank at an end or beside another.
+const UNSEEN = new RegExp(`[${PAGE.unseen}]|(?<![^ ]) | (?![^ ])`, 'gu');
 const LONGEST = 300;
 const LONGEST_TITLE = 4000;
 const LONG = 24;   // a text of more characters may be wider than a cell

@@ -32,8 +32,13 @@ function fill(element, params) {
         const wanted = params[input.dataset.param] || '';
         if (input.type === 'checkbox') {
             input.checked = wanted !== '';
-        } else if (input.value !== wanted) {
-            input.value = wanted;
+        } else {
+            if (input.dataset.param === 'ns') {
+                tellPlace(input, wanted);
+            }
+            if (input.value !== wanted) {
+                input.value = wanted;
+            }
         }
     }
 }
@@ -78,10 +83,32 @@ function placeText(word) {
     return word === OTHER ? 'any other namespace' : lineOf(meaning(word, 'namespace'));
 }
 
+// Whether an address names a namespace that the page doesn't have.
+function isStrange(word) {
+    return Boolean(word) && word !== '-' && word !== OTHER && !ROWS.words.namespace.includes(word);
+}
+
+// What is said of a namespace that the page doesn't have.
+function strangeText(word) {
+    return isStrange(word)
+        ? `This page has no namespace ${placeText(word)}: only what holds everywhere is shown. ` : '';
+}
+
+// Says so where a namespace isn't on the page; a list of them always has a choice that is what is shown.
+function tellPlace(input, word) {
+    input.parentNode.querySelector('.strange-place').textContent = strangeText(word);
+    input.querySelector('.strange')?.remove();
+    if (input.matches('select') && word && ![...input.options].some(({value}) => value === word)) {
+        input.append(make('option', {value: word, class: 'strange'},
+            placeText(word) + ' (not on this page)'));
+    }
+}
+
 // Chooses what is looked at: `first` has the choices before the namespaces. Of many, it is a field to
 // type a namespace into.
 function placeChoice(first) {
     const words = namespacesOf();
+    const told = make('span', {class: 'strange-place', role: 'status'});
     const attributes = {'aria-label': 'Namespace', 'data-param': 'ns',
         change: event => change({ns: event.target.value, cell: ''})};
     if (words.length > MOST_OPTIONS) {
@@ -89,10 +116,10 @@ function placeChoice(first) {
         return [make('input', {type: 'search', list: 'namespaces', placeholder: 'namespace',
             ...attributes, input: event => list.replaceChildren(...words
                 .filter(word => word.includes(event.target.value)).slice(0, 100)
-                .map(word => make('option', {value: word})))}), list];
+                .map(word => make('option', {value: word})))}), list, told];
     }
-    return make('select', attributes, [...first, ...words.map(word => [word, placeText(word)])]
-        .map(([value, text]) => make('option', {value}, text)));
+    return [make('select', attributes, [...first, ...words.map(word => [word, placeText(word)])]
+        .map(([value, text]) => make('option', {value}, text))), told];
 }
 
 // ---- Who
@@ -205,7 +232,7 @@ class PrincipalView {
             : [muted(' in '), ...this.scope.titleNodes()]);
         this.watched.replaceChildren(...it ? badges(it, this.scope).flat() : []);
         if (!it?.rows.length) {
-            this.summary.textContent = 'This page has no row for them'
+            this.summary.textContent = strangeText(params.ns) + 'This page has no row for them'
                 + (it ? '; the watch list has what they may do only by name.' : '.')
                 + (isKey(params.who) ? '' : ' A principal is written u:NAME or g:NAME.');
             this.hidden.hidden = true;
@@ -214,7 +241,7 @@ class PrincipalView {
             this.sheet.show(0);
             return;
         }
-        this.summary.textContent = this.counts(it);
+        this.summary.textContent = strangeText(params.ns) + this.counts(it);
         this.links.replaceChildren(anchor('rows', {who: '=' + it.word,
             namespace: this.scope.isAll ? '' : '=' + this.scope.word}, 'All rows'),
             ...takesOver(it.word));
@@ -356,7 +383,9 @@ class RowsView {
             : `${figure(own)} of ${counted(this.rows.length, 'row')}`)
             + (joined ? ` and ${figure(joined)} of the whole cluster that hold there too` : '')
             + (params.watch && !bitOf(params.watch)
-                ? `: the watch list has no ${lineOf(params.watch)}` : '');
+                ? `: the watch list has no ${lineOf(params.watch)}` : '')
+            + (namespace && params.namespace.startsWith('=') && isStrange(params.namespace.slice(1))
+                ? `: this page has no namespace ${placeText(params.namespace.slice(1))}` : '');
         this.sheet.show(this.shown.length);
     }
 
@@ -422,9 +451,11 @@ class RowsView {
     }
 }
 
-// A cell of CSV. One that a spreadsheet would take for a formula begins with an apostrophe.
+// A cell of CSV. One that a spreadsheet would take for a formula begins with an apostrophe. A semicolon is
+// an escape of the field, since some take it for the end of a cell, in spite of quotes.
 function csvCell(text) {
-    return '"' + (/^[=+@-]/.test(text) ? "'" : '') + text.replaceAll('"', '""') + '"';
+    return '"' + (/^[=+@\uff1d\uff0b\uff20\uff0d-]/.test(text) ? "'" : '')
+        + text.replaceAll('"', '""').replaceAll(';', '\\x3b') + '"';
 }
 
 // Shows or hides what holds everywhere, where a namespace is looked at.

@@ -1,6 +1,7 @@
 #!/usr/bin/env bash
 # The whole gate: each edit still fits, every proof, must-fail edit and test by `rt ci`, a wrong body of each public function, over
-# the libraries that `rt ci` has built, how wrong bodies are chosen and tried, what only a process can show, the kubectl plugin, completions and man page, the page in a browser, lines as tables
+# the libraries that `rt ci` has built, how wrong bodies are chosen and tried, what only a process can show, the hull's package by
+# itself, the kubectl plugin, completions and man page, the page in a browser, lines as tables
 # and as JSON, what make dist packs, random matrices, universes, rules, changes, powers and paths, bad documents, refused
 # memory, reads and writes, and each public call by itself. The last line counts all of it, as `N passed, M failed`. Above it
 # stands what the gate took; if a test skipped something that this machine lacks, a line between the two says what.
@@ -50,6 +51,7 @@ measure
 refusing=$spent
 counted python3 tests/chosen_edits.py
 counted python3 tests/program.py
+counted python3 tests/hull.py
 counted python3 tests/plugin.py
 counted python3 tests/shells.py
 counted python3 tests/rbacaudit_page.py

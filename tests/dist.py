@@ -37,7 +37,7 @@ WHO = {'GIT_%s_%s' % (who, what): value for who in ('AUTHOR', 'COMMITTER')
 GIT = {'GIT_CONFIG_GLOBAL': '/dev/null', 'GIT_CONFIG_SYSTEM': '/dev/null', **WHO}
 # What every system has, and with it tar and gzip. The plugin's tools are those that its help names.
 BASE = 'cat cp dirname find gzip install mkdir mkfifo mv readlink rm sh sha256sum sort tar tr'.split()
-PLUGIN_TOOLS = 'awk', 'date', 'mktemp', 'sed'
+PLUGIN_TOOLS = 'python3',
 QUESTION = 'can-i --as system:serviceaccount:shop:ci -n shop --why update deployments.apps'.split()
 ANSWER = 'yes\nRoleBinding/shop/ci-deploys\tRole/shop/deployer\tRole/shop/deployer\t1\t1\n'
 PLACES = {'bin/rbacaudit': None, 'bin/kubectl-rbacaudit': 'plugin/kubectl-rbacaudit', 
@@ -47,8 +47,8 @@ PLACES = {'bin/rbacaudit': None, 'bin/kubectl-rbacaudit': 'plugin/kubectl-rbacau
           **{'share/zsh/site-functions/_' + name: 'completions/_' + name for name in ('rbacaudit', 'rbacaudit-page', 'rbacaudit-show')},
           **{'share/fish/vendor_completions.d/%s.fish' % name: 'completions/%s.fish' % name for name in ('rbacaudit', 'rbacaudit-page', 'rbacaudit-show')},
           **{'share/man/man1/%s.1' % name: 'man/%s.1' % name for name in ('rbacaudit', 'rbacaudit-page', 'rbacaudit-show', 'kubectl-rbacaudit')},
-          **{'lib/kubectl-rbacaudit/' + name: 'plugin/kubectl-rbacaudit.d/' + name
-             for name in os.listdir(os.path.join(TOP, 'plugin', 'kubectl-rbacaudit.d'))},
+          **{'lib/rbacaudit/rbacaudit_kubectl/' + name: 'plugin/rbacaudit_kubectl/' + name
+             for name in os.listdir(os.path.join(TOP, 'plugin', 'rbacaudit_kubectl')) if name.endswith('.py')},
           **{'share/rbacaudit/page/' + name: 'page/' + name for name in os.listdir(os.path.join(TOP, 'page'))}}
 
 
@@ -116,7 +116,8 @@ class Room:
         """A folder of links to these tools, for a PATH."""
         os.mkdir(self.at(name))
         for tool in tools:
-            os.symlink(shutil.which(tool), self.at(name, tool))
+            # (what python3 is on the PATH may be a script that finds Python by the name that it is called by)
+            os.symlink(sys.executable if tool == 'python3' else shutil.which(tool), self.at(name, tool))
         return self.at(name)
 
     def without_kit(self, *folders, **more):
@@ -427,7 +428,7 @@ def krew(room):
 CURL = """#!/bin/sh
 [ "$*" = "-fsSLo rbacaudit.tar.gz https://downloads.example.com/%s" ] && cp '%s' rbacaudit.tar.gz
 """
-JOB_TOOLS = 'bash', 'git', 'comm', 'wc'
+JOB_TOOLS = 'bash', 'comm', 'git', 'sed', 'wc'
 NEW = """### Gained: 10. Lost: 0. New findings: 2.
 
     +\tu:system:serviceaccount:ci:deploy-checkout\tcheckout\tget\t-\tsecrets\t*\tRoleBinding/checkout/ci-deploys
@@ -555,7 +556,7 @@ case $1 in
     patch) shift 7; exec '%s' '%s' "$@" ;;
 esac
 ''' % (sys.executable, LOCAL_KUBECTL)
-MANIFEST_TOOLS = 'bash', 'cut', 'env', 'fold', 'git', 'grep', 'wc', *PLUGIN_TOOLS
+MANIFEST_TOOLS = 'bash', 'cut', 'env', 'fold', 'git', 'grep', 'sed', 'wc', *PLUGIN_TOOLS
 MORE = '+\tu:system:serviceaccount:shop:ci\tshop\tget\t-\tsecrets\t*\tRoleBinding/shop/ci-deploys\n'
 LESS = ''.join('-\tg:shop-support\tshop\tget\t-\t%s\t*\tRoleBinding/shop/support\n' % type_ for type_ in ('pods', 'pods/log'))
 # What the script of both jobs adds to a pull request.

@@ -63,7 +63,8 @@ class Shown:
         """What a click on Save writes: its rows, as the matrix prints them."""
         heads, *rows = csv.reader(self.save(name).removeprefix('\ufeff').splitlines())
         same('%s: the first line' % name, heads[-7:], LABELS)
-        return ['\t'.join(re.sub("^'(?=[=+@-])", '', cell) or '-' for cell in row) for row in rows]
+        # (a semicolon is saved as an escape, which no other field of these pages has)
+        return ['\t'.join(re.sub("^'(?=[=+@＝＋－＠-])", '', cell).replace('\\x3b', ';') or '-' for cell in row) for row in rows]
 
     def save(self, name):
         path = os.path.join(self.room, name)

@@ -1,4 +1,4 @@
-"""The kubectl plugin, under dash and under bash, with a stand-in for kubectl and the built program.
+"""The kubectl plugin, with a stand-in for kubectl and the built program.
 
 plugin_room.py has the stand-in, plugin_exports.py the exports, plugin_questions.py the questions, plugin_paths.py those of paths,
 plugin_remarks.py what is said beside answers, plugin_changes.py and plugin_manifests.py changes and manifests, plugin_advice.py what is said behind errors,
@@ -42,9 +42,10 @@ def tools(it):
     """What is missing is reported with what to do; versions and help."""
     bare = it.at('bare')
     os.mkdir(bare)
-    for name in (it.shell, 'awk', 'sed', 'mktemp', 'mkdir', 'mv', 'rm', 'rmdir', 'cat', 'tr',
-                 'date'):
-        os.symlink(shutil.which(name), os.path.join(bare, name))
+    os.symlink(shutil.which(it.shell), os.path.join(bare, it.shell))
+    status, out, err = got = it.run('lint', environment=dict(it.environment(), PATH=bare))
+    it.checked('without Python', (status, out) == (2, '') and 'there is no python3 on the PATH' in err, got)
+    os.symlink(sys.executable, os.path.join(bare, 'python3'))
     environment = dict(it.environment(), PATH=bare)
     for line, said in ((['lint'], 'there is no rbacaudit on the PATH'), (['universe'], 'there is no rbacaudit on the PATH'),
                        (['export', 'x'], 'there is no kubectl on the PATH')):
@@ -80,23 +81,8 @@ def tools(it):
     it.checked('with standard input closed', (status, out) == (0, 'yes\n'), got)
 
 
-def functions():
-    """No two of the plugin's parts have a function of one name: the later one would take the other's place."""
-    folder = PLUGIN + '.d'
-    paths = [PLUGIN, *(os.path.join(folder, name) for name in sorted(os.listdir(folder)))]
-    found = [name for path in paths for name in re.findall(r'^(\w+)\(\)', contents(path), re.M)]
-    twice = sorted({name for name in found if found.count(name) > 1})
-    checked('functions of the plugin, each once', len(found) > 100 and not twice, repr(twice))
-
-
 def script():
-    """The script with its parts: shellcheck, and what make install installs, called by links."""
-    if shutil.which('shellcheck'):
-        ended = subprocess.run(['shellcheck', '-x', PLUGIN, COMPLETER], cwd=TOP,
-                               stdout=subprocess.PIPE, stderr=subprocess.STDOUT, timeout=120)
-        checked('shellcheck', ended.returncode == 0, ended.stdout.decode())
-    else:
-        skipped('shellcheck', 'the scripts')
+    """What make install installs, called by links."""
     checked('the plugin may be run', os.stat(PLUGIN).st_mode & 0o111 == 0o111, stat.filemode(os.stat(PLUGIN).st_mode))
     with tempfile.TemporaryDirectory() as path:
         # (the program is built, and isn't to be proved once more)
@@ -290,4 +276,4 @@ def told(words_, folder, tools_=os.path.dirname(PROGRAM)):
 if __name__ == '__main__':
     sys.exit(tested(*plugin_exports.CHECKS, *plugin_questions.CHECKS, *plugin_paths.CHECKS, *plugin_remarks.CHECKS, *plugin_changes.CHECKS, *plugin_manifests.CHECKS, *plugin_advice.CHECKS,
                     *plugin_server.CHECKS, *plugin_terminal.CHECKS, *plugin_show.CHECKS, *plugin_sarif.CHECKS,
-                    tools, functions, script, make_run, completions, in_kubectl, man_page))
+                    tools, script, make_run, completions, in_kubectl, man_page))

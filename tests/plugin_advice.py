@@ -128,7 +128,7 @@ def words(it):
 OLDER = V1 + 'alpha1'
 READS = ': of this API group, rbacaudit reads v1 and v1beta1'
 OF_RBAC = ' has %s or %s' % (V1, V1BETA1)
-# Documents with a bad version, and what is said of it. Where it isn't sure, nothing is.
+# Documents with a bad version, and what is said of it.
 VERSIONS = [
     ({'kind': 'Role'}, 'the document has no apiVersion: a Role' + OF_RBAC), ({'kind': 'ClusterRoleBinding'}, 'the document has no apiVersion: a ClusterRoleBinding' + OF_RBAC),
     ({'kind': 'RoleBindingList', 'items': []}, 'the document has no apiVersion: a RoleBindingList' + OF_RBAC),
@@ -145,8 +145,9 @@ VERSIONS = [
     ({'kind': 'Role', 'apiVersion': RBAC + '/' + 'x' * 600}, 'the apiVersion of the document is ' + RBAC + '/' + 'x' * (499 - len(RBAC)) + '..' + READS),
     ('{"kind": "Role", "apiVersion": "%s", "apiVersion": "%s"}' % (V1, OLDER), 'the apiVersion of the document is ' + OLDER + READS),
     ('{"kind": "Role", "apiVersion": "%s", "apiVersion": 5}' % V1, "the apiVersion of the document isn't a text: a Role" + OF_RBAC),
-    ('{"kind": "Role", "apiVersion": "%s\\/v2"}' % RBAC, None), ('{"kind": "Role", "apiVersion": "%s", "apiVersi\\u006fn": "%s"}' % (V1, OLDER), None),
-    ('{"kind": "R\\u006fle"}', None)]
+    ('{"kind": "Role", "apiVersion": "%s\\/v2"}' % RBAC, 'the apiVersion of the document is ' + RBAC + '/v2' + READS),
+    ('{"kind": "Role", "apiVersion": "%s", "apiVersi\\u006fn": "%s"}' % (V1, OLDER), 'the apiVersion of the document is ' + OLDER + READS),
+    ('{"kind": "R\\u006fle"}', 'the document has no apiVersion: a Role' + OF_RBAC)]
 
 
 def items_of(value):
@@ -278,8 +279,8 @@ LONG_NAMES = [('x' * 500, 'x' * 500), ('x' * 501, 'x' * 500 + '..'), ('"' * 200_
 METADATA = [
     ('{"name": "no", "name": "yes"}', '; item 2 of it is Role yes'),
     ('{"name": "no"}, "metadata": {"name": "yes", "namespace": "s"}', '; item 2 of it is Role s/yes'),
-    ('{"name": "no", "labels": {"name": "not"}, "n\\u0061me": "yes"}', ''),
-    ('{"name": "no"}, "m\\u0065tadata": {"name": "yes"}', '')]
+    ('{"name": "no", "labels": {"name": "not"}, "n\\u0061me": "yes"}', '; item 2 of it is Role yes'),
+    ('{"name": "no"}, "m\\u0065tadata": {"name": "yes"}', '; item 2 of it is Role yes')]
 
 
 @in_each_shell
@@ -300,7 +301,7 @@ def culprits(it):
     fault('an earlier list of items', '{"apiVersion": "v1", "kind": "List", "items": %s, "items": [%s, %s]}'
           % (first, json.dumps(role('a')), json.dumps(role('yes', rules=5))), '; item 2 of it is Role s/yes')
     fault('an escape in the name of items', '{"apiVersion": "v1", "kind": "List", "items": %s, "it\\u0065ms": [%s, %s]}'
-          % (first, json.dumps(role('a')), json.dumps(role('yes', rules=5))), '')
+          % (first, json.dumps(role('a')), json.dumps(role('yes', rules=5))), '; item 2 of it is Role s/yes')
     # (the text is read in pieces: the escapes of a name come to stand across each end)
     for fill in range(1780, 1812):
         name = 'x"\\"\\\\y'

@@ -1,7 +1,9 @@
 """Exports of the kubectl plugin: what is read, kept and reported, and what an early end leaves."""
 
 import contextlib
+import fcntl
 import fnmatch
+import json
 import os
 import pty
 import re
@@ -9,6 +11,7 @@ import resource
 import shutil
 import signal
 import subprocess
+import sys
 import textwrap
 import time
 
@@ -215,7 +218,7 @@ def export_faults(it):
     """What can't be read is reported and noted; the other files are whole."""
     for number, (trouble, missing, said, why) in enumerate([
             ('forbid accounts', 'accounts.json',
-             'Error from server (Forbidden): accounts is? forbidden\nsorry\n',
+             'Error from server (Forbidden): accounts is? forbidden\\nsorry\n',
              'ended with status 1'),
             ('half-forbid cluster', 'cluster.json', 'Error from server (Forbidden): half of cluster\n', 'ended with status 1'),
             ('down api-metrics.k8s.io-v1beta1', 'api-metrics.k8s.io-v1beta1.json',
@@ -232,7 +235,7 @@ def export_faults(it):
                 it.files(folder) == sorted({*WHOLE, 'incomplete.txt'} - {missing}), it.files(folder))
         noted = it.read(folder, 'incomplete.txt')
         reason = ' '.join(line for line in (said or '').splitlines()
-                          if not line.startswith('Warning'))
+                          if not line.startswith('Warning')).replace('\\n', ' ')
         it.checked('%s is noted, with its reason' % trouble,
                    noted.startswith(missing + ': kubectl get ')
                    and noted.endswith('%s%s\n' % (why, reason and ': ' + reason)), noted)
@@ -377,15 +380,25 @@ def interruptions(it):
             it.checked(name + ': no half export', not os.path.exists(os.path.join(it.work, 'new')) and it.files('old') == WHOLE, it.files('.'))
 
 
+# Runs the plugin in this process, which dies when it puts the first file in its place.
+KILLED = r'''
+import os, runpy, signal, sys
+put = os.replace
+def replace(path, place):
+    if os.path.dirname(place) == 'prod' and place.endswith('.json'):
+        os.kill(os.getpid(), signal.SIGKILL)
+    put(path, place)
+os.replace = replace
+sys.argv = sys.argv[2:]
+runpy.run_path(sys.argv[0], run_name='__main__')
+'''
+
+
 @in_each_shell
 def publishing(it):
     """An export that is cut off while its files are put in place says so, and doesn't answer."""
     it.run('export', 'prod')
-    with open(os.path.join(it.bin, 'mv'), 'w', encoding='utf-8') as file:
-        file.write('#!/bin/sh\ncase "$*" in *prod/) kill -9 $PPID ;; *) exec %s "$@" ;; esac\n' % shutil.which('mv'))
-    os.chmod(os.path.join(it.bin, 'mv'), 0o755)
-    status, _, _ = got = it.run('export', '--force', 'prod')
-    os.remove(os.path.join(it.bin, 'mv'))
+    status, _, _ = got = it.run('export', '--force', 'prod', within=[sys.executable, '-c', KILLED])
     it.checked('it is killed', status == -signal.SIGKILL, got)
     for name in os.listdir(os.path.join(it.work, 'prod')):
         if name.startswith('.rbacaudit'):
@@ -461,5 +474,90 @@ def files_gone(it):
         it.expect('no list of files', [*update, '--export', folder], 0, 'yes\n', UNLISTED % 'type deployments.apps')
 
 
-CHECKS = [whole_export, about, two_at_a_time, files_gone, one_namespace, side_by_side, progress, exporter, export_faults,
+@in_each_shell
+def owned(it):
+    """An export is for its owner alone, and so is the folder that it makes; a folder that was there stays as it was."""
+    os.mkdir(os.path.join(it.work, 'mine'), 0o755)
+    for folder, wanted in (('prod', 0o700), ('mine', 0o755)):
+        it.run('export', folder)
+        modes = {name: os.stat(os.path.join(it.work, folder, name)).st_mode & 0o777 for name in it.files(folder)}
+        it.checked('%s: its files' % folder, set(modes.values()) == {0o600}, modes)
+        it.checked('%s: the folder' % folder, os.stat(os.path.join(it.work, folder)).st_mode & 0o777 == wanted, folder)
+
+
+@in_each_shell
+def long_names(it):
+    """The file of an API version whose name no folder takes has a shorter one, and about.txt says so."""
+    groups, long = api_groups(), ['%s.%s/v1' % ('g' * 246, end) for end in 'ab']
+    groups['groups'] += [{'versions': [{'groupVersion': version}]} for version in long]
+    it.serve({'apis': groups})
+    with open(os.path.join(it.bin, 'kubectl'), 'r+', encoding='utf-8') as file:
+        script = file.read().replace('    "|get|--raw|/apis/"*)', '    "|get|--raw|/apis/ggg"*) file=api-metrics.k8s.io-v1beta1 ;;\n    "|get|--raw|/apis/"*)')
+        file.seek(0)
+        file.write(script)
+    it.expect('an export', ['export', 'prod'], 0, 'The export in prod is whole: 10 files.\n')
+    names = sorted(set(it.files('prod')) - set(WHOLE))
+    said = it.read('prod', 'about.txt')
+    it.checked('its files', len(names) == 2 and all(len(name) < 256 for name in names), names)
+    it.checked('about.txt says so', all(any('shortened: %s has the API version %s\n' % (name, version) in said for name in names) for version in long), said)
+    it.expect('a question', ['can-i', '--export', 'prod', *CI, 'update', 'deployments.apps'], 0, 'yes\n')
+
+
+CUT = "kubectl-rbacaudit: namespaced.json in prod isn't whole: its metadata.continue says that the list goes on\n"
+
+
+@in_each_shell
+def cut_lists(it):
+    """A list that goes on elsewhere isn't whole: neither where it is read, nor in a folder."""
+    it.run('export', 'prod')
+    half = {**served()['namespaced'], 'metadata': {'continue': 'abc'}}
+    it.serve({'namespaced': half})
+    status, out, err = got = it.run('export', 'half')
+    it.checked('an export', (status, out) == (1, '') and "namespaced.json can't be read: " in err and "printed a part of its list, which isn't whole\n" in err
+               and 'namespaced.json' not in it.files('half'), got)
+    it.write(json.dumps(half), 'prod', 'namespaced.json')
+    it.expect('a question to a part', ['lint', '--export', 'prod'], 2, '', CUT + REFUSAL)
+    status, out, err = got = it.run('lint', '--export', 'prod', '--partial')
+    it.checked('--partial', status == 1 and out and err == CUT + CAUTION, got)
+
+
+@in_each_shell
+def full_disk(it):
+    """An export whose last word can't be written ends with 2, and says why."""
+    with open('/dev/full', 'wb') as full:
+        ended = subprocess.run([it.shell, PLUGIN, 'export', 'prod'], cwd=it.work, env=it.environment(), stdin=subprocess.DEVNULL, stdout=full,
+                               stderr=subprocess.PIPE, timeout=60)
+    it.checked('a full disk', (ended.returncode, ended.stderr) == (
+        2, b"kubectl-rbacaudit: can't write to standard output: No space left on device\n"), ended)
+    it.checked('the export is whole', it.files('prod') == WHOLE, it.files('prod'))
+
+
+@in_each_shell
+def closed_files(it):
+    """With standard files closed, no file of the run takes their places."""
+    it.run('export', 'prod')
+    for numbers, status in (((0,), 1), ((0, 1, 2), 2), ((1,), 2), ((2,), 1)):
+        got = it.run('lint', '--export', 'prod', preexec_fn=lambda numbers=numbers: [os.close(number) for number in numbers])
+        it.checked('closed: %s' % (numbers,), got[0] == status, got)
+        status = it.run('export', '--force', 'new', preexec_fn=lambda numbers=numbers: [os.close(number) for number in numbers])[0]
+        it.checked('an export, closed: %s' % (numbers,), status == (2 if 1 in numbers else 0) and it.files('new') == WHOLE, (status, it.files('new')))
+
+
+@in_each_shell
+def killed(it):
+    """What an export that was killed has left is removed by the next one, but not what one that goes on has."""
+    it.run('export', 'prod')
+    for name in ('.rbacaudit.dead', '.rbacaudit.alive', '.rbacaudit.old'):
+        os.mkdir(os.path.join(it.work, 'prod', name))
+    it.write('half', 'prod', '.rbacaudit.old', 'got.1')
+    for name in ('.rbacaudit.dead', '.rbacaudit.alive'):
+        it.write('', 'prod', name, 'alive')
+    with open(os.path.join(it.work, 'prod', '.rbacaudit.alive', 'alive'), 'rb') as alive:
+        fcntl.flock(alive, fcntl.LOCK_EX)
+        it.expect('the next export', ['export', '--force', 'prod'], 0, 'The export in prod is whole: 8 files.\n')
+    it.checked('what it leaves', it.files('prod') == sorted([*WHOLE, '.rbacaudit.alive']), it.files('prod'))
+    shutil.rmtree(os.path.join(it.work, 'prod', '.rbacaudit.alive'))
+
+
+CHECKS = [owned, long_names, cut_lists, full_disk, closed_files, killed, whole_export, about, two_at_a_time, files_gone, one_namespace, side_by_side, progress, exporter, export_faults,
           no_export, closed_folder, old_exports, interruptions, publishing]

@@ -10,6 +10,7 @@ import os
 import re
 import shutil
 import subprocess
+import sys
 import textwrap
 
 from common import TOP, V1, skipped
@@ -97,7 +98,8 @@ def paths(it):
     put(it, {**FOLDER, **KUSTOMIZED})
     os.symlink('m', os.path.join(it.work, 'link'))
     os.symlink('../m/a-b.json', os.path.join(it.work, 'm', 'z.json'))
-    in_folder = [*IN_ORDER, 'Role/one', 'Role/two']
+    # (what a link within leads to is read once)
+    in_folder = IN_ORDER
     for given, found, said in ((['m'], in_folder, 'm'), (['m/'], in_folder, 'm/'), (['link'], in_folder, 'link'), (['m/a'], in_folder[1:4], 'm/a'),
                                (['m/a-b.json'], ['Role/one', 'Role/two'], 'm/a-b.json'), (['m/c, "d".json'], ['Role/comma'], 'm/c, "d".json'),
                                (['k/base'], ['Role/based'], 'k/base'), (['k/prod/', 'm/a'], ['Role/based', *in_folder[1:4]], 'k/prod/, m/a')):
@@ -179,7 +181,7 @@ REFUSED = [
     ('k/base/kustomization.yaml', KUSTOMIZED,
      'kubectl-rbacaudit: k/base/kustomization.yaml says how kustomize renders its folder: give the folder\n'),
     ('m', {'m/a\nb.json': ROLE}, 'kubectl-rbacaudit: a file or folder in m has a line break in its name: give it another\n'),
-    ('m\nb.json', {'m\nb.json': ROLE}, 'kubectl-rbacaudit: m\nb.json has a line break in its name: give it another\n')]
+    ('m\nb.json', {'m\nb.json': ROLE}, 'kubectl-rbacaudit: m\\nb.json has a line break in its name: give it another\n')]
 
 
 @with_manifests
@@ -192,6 +194,19 @@ def refusals(it):
             it.checked('%s %r' % (line, said), got == (2, '', said), got)
         for name in it.files('.'):
             shutil.rmtree(os.path.join(it.work, name), ignore_errors=True)
+    # (nobody but the file's owner may have a runner's files printed, or a branch compared with itself)
+    put(it, {'main/a.json': ROLE, 'secret.json': ROLE, 'm/in/a.json': ROLE})
+    for target in ('../../secret.json', '../../main/a.json', it.at('work/secret.json'), '/proc/self/environ'):
+        os.symlink(target, os.path.join(it.work, 'm', 'in', 'b.json'))
+        for line in (['read', 'm'], ['lint', 'm'], ['diff', '--from', 'main', '--to', 'm'], ['diff', '--with', 'm/in']):
+            got = without_cluster(it, *line)
+            it.checked('a link to %s: %s' % (target, line), got[:2] == (2, '') and got[2].endswith(
+                'kubectl-rbacaudit: m/in/b.json is a link that leads out of %s, so nothing is read\n' % line[-1]), got)
+        os.remove(os.path.join(it.work, 'm', 'in', 'b.json'))
+    put(it, {'m/in/b.json': {**ROLE, 'kind': 'x\n::error::y', 'apiVersion': V1}, 'm/in/c.json': '[::error::\n::error::]'})
+    for given in ('m/in/b.json', 'm/in/c.json', 'm'):
+        status, out, err = got = without_cluster(it, 'read', given)
+        it.checked('no line begins with words of a file: %s' % given, (status, out) == (2, '') and err and '\n::' not in err, got)
     put(it, {'k/kustomization.yaml': {'resources': ['gone.json']}})
     status, out, err = got = without_cluster(it, 'read', 'k')
     it.checked('a bad kustomization', (status, out) == (2, '') and 'gone.json' in err and err.endswith(
@@ -208,8 +223,8 @@ def refusals(it):
 def without_kubectl(it):
     """Without kubectl no manifest is read, JSON or not: it alone says what a document means."""
     put(it, {'role.json': ROLE})
-    for tool in ('awk', 'cat', 'env', 'mkdir', 'mktemp', 'rm', 'sed', 'tr', it.shell):
-        os.symlink(shutil.which(tool), os.path.join(it.bin, tool))
+    for name, program in (('python3', sys.executable), (it.shell, shutil.which(it.shell))):
+        os.symlink(program, os.path.join(it.bin, name))
     os.remove(os.path.join(it.bin, 'kubectl'))
     for line in (['read', 'role.json'], ['lint', 'role.json'], ['diff', '--from', 'role.json', '--to', 'role.json']):
         it.expect('without kubectl: %s' % line[0], line, 2, '', 'kubectl-rbacaudit: there is no kubectl on the PATH: it reads the manifests; '

@@ -205,10 +205,6 @@ def plugin_refusals(it):
                'a Universe document has no field verb, so it is ignored\n', got)
     it.expect('a bad FILE', ['page', '--export', 'prod', 'bad.json'], 2, '',
               'rbacaudit: file 2: M2 not an object\nkubectl-rbacaudit: file 2 is bad.json\n')
-    os.remove(os.path.join(it.bin, 'rbacaudit-page'))
-    status, out, err = got = it.run('page', '--export', 'prod')
-    it.checked('without rbacaudit-page',
-               (status, out) == (2, '') and 'there is no rbacaudit-page on the PATH' in err, got)
 
 
 @in_each_shell

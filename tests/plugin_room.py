@@ -8,7 +8,6 @@ local_kubectl.py.
 import contextlib
 import json
 import os
-import shutil
 import subprocess
 import sys
 import tempfile
@@ -17,7 +16,8 @@ from common import PROGRAM, TOP, V1, checked
 
 PLUGIN = os.path.join(TOP, 'plugin', 'kubectl-rbacaudit')
 LOCAL_KUBECTL = os.path.join(TOP, 'tests', 'local_kubectl.py')
-SHELLS = ['dash' if shutil.which('dash') else 'sh', 'bash']
+# (what a user runs: sh begins the script, and gives it to Python)
+SHELLS = ['sh']
 
 # A call is one line of words, each with a | before it; one that isn't a reading call of the plugin is
 # written to `strange`, and one that reads manifests, and so no cluster, to `reads`. The options that say who reads what go to `targets`. What kubectl says of its

@@ -14,7 +14,6 @@ from local_kubectl import yaml
 from plugin_changes import a_list, read
 from plugin_manifests import ALONE, bound, put, role, with_manifests, without_cluster
 from plugin_room import PLUGIN, SHELLS, example, in_each_shell, of_kinds, room
-from plugin_terminal import AWKS
 
 RUN = {'lint': ['L1', 'L2', 'L3', 'L4', 'L5', 'L6', 'L7'], 'diff': ['gained-permission', 'lost-permission']}
 
@@ -224,23 +223,23 @@ items:
   metadata:
     name: third
 """
-FOUND = {'Role/a/first': 19, 'Role/b/first': 24, 'Role/a/hidden': 1, 'Role/a/second': 32, 'RoleBinding/a/listed': 40, 'Role/default/third': 49}
+FOUND = {'Role/a/first': 19, 'Role/b/first': 24, 'Role/a/hidden': 28, 'Role/a/second': 32, 'RoleBinding/a/listed': 40, 'Role/default/third': 49}
 
 
 @with_manifests
 def lines(it):
-    """The line of an object is that of its name, where it is written as usual."""
+    """The line of an object is that of its name, where PyYAML can be imported; otherwise it is the first."""
     items = [role('x', 'a'), bound('y', 'b', 'kim', 'Role', 'gone'), {**role('z', 'c'), 'metadata': {'labels': {'name': 'x'}, 'name': 'z', 'namespace': 'c'}}]
     wanted = {'Role/a/x': 2 + 1 + 1 + 5, 'RoleBinding/b/y': 0, 'Role/c/z': 0}
     text = json.dumps(a_list('List', 'v1', *items), indent=2)
     for name in wanted:
         [wanted[name]] = [at for at, line in enumerate(text.split('\n'), 1) if line.strip(' ,') == '"name": "%s"' % name[-1]
                           and line.startswith(' ' * 8 + '"')]
-    cases = [('m.json', text, wanted)]
     if yaml:
-        cases += [('m.yaml', LINES, FOUND), ('windows.yaml', LINES.replace('\n', '\r\n'), FOUND)]
+        cases = [('m.json', text, wanted), ('m.yaml', LINES, FOUND), ('windows.yaml', LINES.replace('\n', '\r\n'), FOUND)]
     else:
-        skipped('PyYAML', 'lines of YAML')
+        cases = [('m.json', text, dict.fromkeys(wanted, 1))]
+        skipped('PyYAML', 'lines of objects')
     for name, text, wanted in cases:
         put(it, {name: text})
         got = without_cluster(it, 'lint', '--only', 'L1,L2', '-o', 'sarif', name)
@@ -299,7 +298,8 @@ def changed(it):
 HOSTILE = {'[x](https://evil.example)': ('\\x5bx\\x5d(https://evil.example)', '[x](https://evil.example)'), '{0}': ('\\x7b0\\x7d', '{0}'),
            'x\u202eyes\u2066': ('x\\xe2\\x80\\xaeyes\\xe2\\x81\\xa6',) * 2, 'back\\slash': ('back\\\\slash',) * 2, '"': ('"', '"'), "'": ("'", "'"),
            'line\nbreak\ttab\x7f': ('line\\x0abreak\\x09tab\\x7f',) * 2, 'caf\u00e9\U0001f600': ('caf\u00e9\U0001f600',) * 2, '\U000e0041': ('\\xf3\\xa0\\x81\\x81',) * 2,
-           '\u200b' * 400: ('\\xe2\\x80\\x8b' * 400,) * 2, '&lt;<b>': ('&lt;<b>',) * 2, '%s%d\\n': ('%s%d\\\\n',) * 2, '-': ('-', '-'), '*': ('*', '*')}
+           '\u200b' * 400: ('\\xe2\\x80\\x8b' * 400,) * 2, '&lt;<b>': ('&lt;<b>',) * 2, '%s%d\\n': ('%s%d\\\\n',) * 2, '-': ('-', '-'), '*': ('*', '*'),
+           '\u034f\u2800\u3164\ufe0f': ('\\xcd\\x8f\\xe2\\xa0\\x80\\xe3\\x85\\xa4\\xef\\xb8\\x8f',) * 2}
 BLANK = 'a "b" c'
 
 
@@ -409,27 +409,4 @@ def errors(it):
     it.checked('a full disk', ended.returncode == 2, ended)
 
 
-def awks():
-    """Each awk that there is writes what the first one does, at which the other checks look."""
-    with room(SHELLS[0]) as it:
-        hostile_roles(it)
-        put(it, {'m/' + name: role('r%d' % at, 'a') for at, name in enumerate(ADDRESSES)})
-        put(it, {'old/x.json': json.dumps(a_list('List', 'v1', role('r', 'a'), bound('r', 'a', 'ann')), indent=2),
-                 'new/x.json': json.dumps(a_list('List', 'v1', role('r', 'a', 'get', *('v%d' % at for at in range(12))), bound('r', 'a', 'ann'),
-                                                 bound('q', 'a', 'x\u202e "y"', 'Role', 'r')), indent=4)})
-        wanted = None
-        for words in AWKS:
-            if not shutil.which(words[0]):
-                skipped(words[0], 'SARIF')
-                continue
-            path = os.path.join(it.bin, 'awk')
-            with open(path, 'w', encoding='utf-8') as file:
-                file.write('#!/bin/sh\nexec %s "$@"\n' % ' '.join([os.path.realpath(shutil.which(words[0])), *words[1:]]))
-            os.chmod(path, 0o755)
-            got = [without_cluster(it, *line, '-o', 'sarif') for line in (['lint', 'm'], ['diff', '--from', 'old', '--to', 'new'])]
-            counts = [len(results_of(it, '%s: %s' % (' '.join(words), name), answer, 1)) for name, answer in zip(('lint', 'diff'), got)]
-            wanted = wanted or got
-            it.checked('%s: the same' % ' '.join(words), got == wanted and counts == [len(HOSTILE) + 1 + len(ADDRESSES), 2], (counts, got))
-
-
-CHECKS = [examples, exports, files, lines, changed, names, permission_texts, fingerprints, many, errors, awks]
+CHECKS = [examples, exports, files, lines, changed, names, permission_texts, fingerprints, many, errors]

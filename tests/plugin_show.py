@@ -9,15 +9,16 @@ import random
 import re
 import shutil
 import subprocess
+import sys
 
-from common import TOP, V1, checked
-from plugin_room import PLUGIN, SHELLS, in_each_shell, of_kinds
-from plugin_terminal import (ANSWERS, SEEN_BINDING, SEEN_ROLE, SEEN_TYPE, SEEN_USER, TYPE, USER, awks, hostile, in_tmux,
+from common import V1, checked
+from plugin_room import PLUGIN, in_each_shell, of_kinds
+from plugin_terminal import (ANSWERS, SEEN_BINDING, SEEN_ROLE, SEEN_TYPE, SEEN_USER, TYPE, USER, hostile, in_tmux,
                              on_terminal)
 from show import NAMES, colored, field_of, is_same, objects_in
 from written import steps as steps_of_behaviour
 
-PARTS = PLUGIN + '.d'
+PACKAGE = os.path.join(os.path.dirname(PLUGIN), 'rbacaudit_kubectl')
 RBAC = 'rbac.authorization.k8s.io'
 ADMISSION = 'admissionregistration.k8s.io'
 # The powers: each with its verbs and types, whether a ClusterRoleBinding alone gives it, and whether a rule for some names does.
@@ -162,22 +163,15 @@ def refused(it):
 
 @in_each_shell
 def without_filter(it):
-    """Where rbacaudit-show isn't there, a terminal gets lines; and who asks for a format is told."""
+    """The plugin has its tables and formats from its package, whether rbacaudit-show is there or not."""
     it.run('export', 'prod')
     alone = it.at('alone')
     os.mkdir(alone)
     shutil.copy(PLUGIN, alone)
-    shutil.copytree(PARTS, os.path.join(alone, 'kubectl-rbacaudit.d'))
+    shutil.copytree(PACKAGE, os.path.join(alone, os.path.basename(PACKAGE)))
     line = ['lint', '--export', 'prod', '--only', 'L2']
-    got = on_terminal(it, *line, plugin=os.path.join(alone, 'kubectl-rbacaudit'))
-    it.checked('lines without the filter', got == (1, 'L2\tunused-role\tClusterRole/odd\t-\t-\n', ''), got)
-    ended = subprocess.run([it.shell, os.path.join(alone, 'kubectl-rbacaudit'), *line, '-o', 'json'], cwd=it.work, env=it.environment(),
-                           stdin=subprocess.DEVNULL, stdout=subprocess.PIPE, stderr=subprocess.PIPE, timeout=60)
-    it.checked('no format without the filter', (ended.returncode, ended.stdout) == (2, b'') and b'there is no rbacaudit-show: make install' in ended.stderr, ended)
-    shutil.copy(os.path.join(TOP, 'plugin', 'rbacaudit-show'), it.bin)
-    shutil.copytree(PARTS, os.path.join(it.bin, 'kubectl-rbacaudit.d'))
-    got = on_terminal(it, *line, plugin=os.path.join(alone, 'kubectl-rbacaudit'))
-    it.checked('the filter on the PATH', got[1].split('\n')[0] == 'CODE  NAME         OBJECT           PLACE  DETAIL', got)
+    got = on_terminal(it, *line, plugin=os.path.join(alone, os.path.basename(PLUGIN)))
+    it.checked('a table', (got[0], got[1].split('\n')[0]) == (1, 'CODE  NAME         OBJECT           PLACE  DETAIL'), got)
 
 
 @in_each_shell
@@ -417,16 +411,31 @@ def random_summaries(it):
         it.checked('a random summary', got == (1, wanted, '') and lines.count('\n') > 100, (got, wanted))
 
 
+TABLE = '''import json, sys
+sys.path.insert(0, sys.argv[1])
+from rbacaudit_kubectl.fields import STEPS
+print(json.dumps(STEPS))
+'''
+SUMMARY_OF = '''import sys
+sys.path.insert(0, sys.argv[1])
+from rbacaudit_kubectl.summary import summarize
+print(summarize([line.split(chr(9)) for line in sys.stdin.read().splitlines()])[0], end='')
+'''
+
+
+def python(script, given=''):
+    """What a script prints that has the package of the plugin."""
+    return subprocess.run([sys.executable, '-c', script, os.path.dirname(PLUGIN)], input=given.encode(), stdout=subprocess.PIPE, timeout=120,
+                          check=True).stdout.decode()
+
+
 def steps():
-    """The table of steps is that of docs/BEHAVIOUR.md, and the powers are what it says, under each awk."""
+    """The table of steps is that of docs/BEHAVIOUR.md, and the powers are what it says."""
     wanted = [(power, verbs.split(), types.split(), in_cluster, named) for power, verbs, types, in_cluster, named in POWERS]
     said = steps_of_behaviour()
     checked('docs/BEHAVIOUR.md: the powers', said == wanted, repr(said))
-    with open(os.path.join(PARTS, 'steps.sh'), encoding='utf-8') as file:
-        text = re.sub(r'" \\\n *"', '', file.read())
-    table = [(power, verbs, types, 'cluster' in where, 'named' in where) for power, verbs, types, where in
-             re.findall(r'^    step\("(.*?)", "(.*?)", "(.*?)", "(.*?)"\)$', text, re.M)]
-    checked('steps.sh: the powers', table == POWERS, repr(table))
+    table = [(power, verbs.split(), types.split(), 'cluster' in where, 'named' in where) for power, verbs, types, where in json.loads(python(TABLE))]
+    checked('fields.py: the powers', table == wanted, repr(table))
     chosen = random.Random(3)
     words = [sorted({word for change in POWERS for word in of(change)} | {'*', 'x'}) for of in (
         lambda it: it[1].split(), lambda it: [type_.partition('.')[2] or '-' for type_ in it[2].split()], lambda it: [type_.partition('.')[0] for type_ in it[2].split()])]
@@ -435,11 +444,9 @@ def steps():
                for at in range(20000)]
     changes.sort(key=lambda it: '\t'.join(it[1:]).encode())
     lines = ''.join('\t'.join(change) + '\n' for change in changes)
-    wanted = sorted(summary_of(lines))
-    for words_ in awks():
-        script = '. "$0/steps.sh" && . "$0/summary.sh" && export LC_ALL=C TOTAL=/dev/stdout && exec "$@" "$SUMMARY"'
-        got = subprocess.run([SHELLS[0], '-c', script, PARTS, *words_], input=lines.encode(), stdout=subprocess.PIPE, timeout=120, check=True).stdout.decode()
-        checked('%s: a summary' % ' '.join(words_), sorted(got.splitlines(True)) == wanted, repr(got[:500]))
+    wanted = [*summary_of(lines)]
+    got = python(SUMMARY_OF, lines)
+    checked('a summary', got.splitlines(True) == wanted, repr(got[:500]))
 
 
 # ---- a terminal that shows what it got

@@ -12,75 +12,10 @@ import struct
 import subprocess
 import termios
 import time
-import unicodedata
 
-from common import TOP, V1, checked, skipped
+from common import V1, skipped
 from plugin_exports import hear_signals
-from plugin_room import PLUGIN, SHELLS, document, in_each_shell, of_kinds, served
-
-PART = os.path.join(TOP, 'plugin', 'kubectl-rbacaudit.d', 'terminal.sh')
-AWKS = [['awk'], ['mawk'], ['gawk'], ['original-awk'], ['busybox', 'awk']]
-
-
-# ---- which characters
-
-def is_unseen(one):
-    """Whether a character above ASCII isn't to be seen: of these categories, or a control character of hieroglyphs that newer
-    versions of Unicode have."""
-    return unicodedata.category(one) in ('Cc', 'Cf', 'Cs', 'Zl', 'Zp') or 0x13430 <= ord(one) <= 0x1343f
-
-
-def hexed(data):
-    return b''.join(b'\\x%02x' % byte for byte in data)
-
-
-def awks():
-    for words in AWKS:
-        if shutil.which(words[0]):
-            yield words
-        else:
-            skipped(words[0], 'escapes on a terminal')
-
-
-def escaped_by(words, data, *more):
-    """What the escapes make of some lines, under an awk."""
-    script = '. "$0" && export LC_ALL=C && exec "$@" "$ESCAPES"'
-    return subprocess.run([SHELLS[0], '-c', script, PART, *words, *more], input=data, stdout=subprocess.PIPE, timeout=120,
-                          check=True).stdout
-
-
-# Bytes that are no UTF-8, and what they become: cut short, too long for their number, a surrogate, past the last character.
-NO_UTF8 = [(b'a\xffb', b'a\\xffb'), (b'\xe2\x80', b'\\xe2\\x80'), (b'\xe2\x80x', b'\\xe2\\x80x'), (b'\xc0\x80', b'\\xc0\\x80'),
-           (b'\x9b2K', b'\\x9b2K'), (b'\xe0\x80\xaf', b'\\xe0\\x80\\xaf'), (b'\xed\xa0\x80', b'\\xed\\xa0\\x80'),
-           (b'\xf4\x90\x80\x80', b'\\xf4\\x90\\x80\\x80'), (b'\xf5\x80\x80\x80', b'\\xf5\\x80\\x80\\x80'),
-           (b'\xf0\x8f\xbf\xbf', b'\\xf0\\x8f\\xbf\\xbf'), (b'\xc3\xa9\xa9', b'\xc3\xa9\\xa9')]
-
-
-def characters():
-    """Each character, under each awk: those that aren't to be seen are escaped, and no other."""
-    every = [chr(number) for number in range(1, 0x110000) if number != 10]
-    lines = [every[at:at + 60] for at in range(0, len(every), 60)]
-    data = b'\n'.join(''.join(line).encode(errors='surrogatepass') for line in lines) + b'\n'
-    wanted = [b''.join(hexed(one.encode(errors='surrogatepass')) if one > '\x7f' and is_unseen(one) else one.encode() for one in line)
-              for line in lines]
-    # (pieces of a line: an unseen character across the end of one, and others before it)
-    long = ''.join('x' * fill + '\u202e\u00e9\U000e0041' for fill in (1020, 1021, 1022, 1023, 5, 1024, 1025)) + '\u00e9' * 3000
-    for words in awks():
-        name = ' '.join(words)
-        got = escaped_by(words, data).split(b'\n')
-        wrong = [(mine[:80], its[:80]) for mine, its in zip(wanted, got) if mine != its]
-        checked('%s: every character' % name, not wrong and len(got) == len(wanted) + 1, repr(wrong[:3]))
-        for given, text in NO_UTF8:
-            got = escaped_by(words, b'-' + given + b'\n')
-            checked('%s: no UTF-8: %r' % (name, given), got == b'-' + text + b'\n', repr(got))
-        got = escaped_by(words, long.encode() + b'\n').decode()
-        checked('%s: a long line' % name,
-                got == long.replace('\u202e', '\\xe2\\x80\\xae').replace('\U000e0041', '\\xf3\\xa0\\x81\\x81') + '\n', got[:200])
-        value = ''.join(one for one in every if not unicodedata.category(one) == 'Cs')
-        got = escaped_by(words, json.dumps(value, ensure_ascii=False).encode() + b'\n', '-v', 'json=1').decode()
-        well = document(got) == value and not any(one > '\x7f' and is_unseen(one) for one in got)
-        checked('%s: JSON' % name, well, repr(got[:200]))
-
+from plugin_room import PLUGIN, document, in_each_shell, of_kinds, served
 
 # ---- answers
 
@@ -206,7 +141,7 @@ def reports(it):
         file.write(script)
     status, out, err = got = it.run('export', 'part', trouble=['forbid accounts'])
     said = 'accounts is? forbidden\\xe2\\x80\\xae\\x9b\\xc2\\x9b2J'
-    it.checked('what kubectl says', (status, out) == (1, '') and said + '\nsorry\n' in err, got)
+    it.checked('what kubectl says', (status, out) == (1, '') and said + '\\nsorry\n' in err, got)
     it.checked('what is noted of it', said + ' sorry\n' in it.read('part', 'incomplete.txt'), it.read('part', 'incomplete.txt'))
     it.at_context('', name='far\u202e')
     it.run('export', 'named')
@@ -264,9 +199,6 @@ def signals(it):
     os.remove(os.path.join(it.bin, 'rbacaudit'))
     it.write(LONG, it.bin, 'rbacaudit')
     os.chmod(os.path.join(it.bin, 'rbacaudit'), 0o755)
-    # (a signal that comes before a process has begun can be lost, so the escapes have to end without one)
-    it.write("#!/bin/sh\ntrap '' TERM\nexec %s \"$@\"\n" % shutil.which('awk'), it.bin, 'awk')
-    os.chmod(os.path.join(it.bin, 'awk'), 0o755)
     for name, number, send in (('Ctrl-C', signal.SIGINT, lambda ours, _: os.write(ours, b'\x03')),
                                ('TERM', signal.SIGTERM, lambda _, process: process.terminate()),
                                ('HUP', signal.SIGHUP, lambda _, process: process.send_signal(signal.SIGHUP))):
@@ -314,4 +246,4 @@ def in_a_terminal():
         skipped('tmux', 'what a terminal shows')
 
 
-CHECKS = [characters, answers, stale_answers, reports, signals, in_a_terminal]
+CHECKS = [answers, stale_answers, reports, signals, in_a_terminal]

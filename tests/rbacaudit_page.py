@@ -386,6 +386,9 @@ def limits():
          (2, b"rbacaudit-page: the page can't be written: No space left on device\n"))
     with tempfile.TemporaryDirectory() as room:
         path = shutil.copy(FILTER, room)
+        same('a filter without the package', made(SMALL, path=path), (2, '', "rbacaudit-page: the parts of the plugin aren't "
+                                                                      'there: make install puts them into lib/rbacaudit\n'))
+        shutil.copytree(os.path.join(os.path.dirname(FILTER), 'rbacaudit_kubectl'), os.path.join(room, 'rbacaudit_kubectl'))
         status, out, err = got = made(SMALL, path=path)
         checked('a filter without its files', (status, out) == (2, '')
                 and err.startswith('rbacaudit-page: there is no page.css in ')

@@ -1,8 +1,8 @@
-"""rbacaudit-show: lines of each command as a table, as JSON and as names, under each awk that there is.
+"""rbacaudit-show: lines of each command as a table, as JSON and as names.
 
 Lines with their tables and objects are those of tests/show_lines.py. Lines of the built program over examples/ are read
 once more here, by the rules of that document, and compared with the objects. What is skipped, since this
-machine lacks an awk, a shell or a renderer, stands in the last line but one. The last line is
+machine lacks a shell or a renderer, stands in the last line but one. The last line is
 `N passed, M failed`.
 """
 
@@ -24,7 +24,6 @@ import threading
 import unicodedata
 
 from common import PROGRAM, TOP, checked, skipped, tested
-from plugin_terminal import AWKS
 from shells import renders
 from show_lines import (ANSWER, ANSWER_HEADLESS, ANSWER_TABLE, COMMANDS, DIFF, DIFF_TABLE, FILES, HOLDERS, HOLDERS_TABLE, LINT, MATRIX, MATRIX_80,
                         MATRIX_TABLE, OF_COUNTS, OF_ROW, OPS_WORDS, OPS_WORDS_44, PATHS, POWERS, ROWS, RULES, SHOP_WORDS, WAYS, WHY, WHY_TABLE, WORDS,
@@ -39,23 +38,14 @@ EXPECTED = ('no command of rbacaudit prints this: expected lines of can-i, who-c
             'rbacaudit-show --help lists their fields')
 
 
-# ---- the filter, under an awk
+# ---- the filter
 
 class Filter:
-    """rbacaudit-show with one awk on its PATH."""
-
-    def __init__(self, words, room):
-        self.name = ' '.join(words)
-        self.bin = os.path.join(room, words[0])
-        os.mkdir(self.bin)
-        path = os.path.join(self.bin, 'awk')
-        with open(path, 'w', encoding='utf-8') as file:
-            file.write('#!/bin/sh\nexec %s "$@"\n' % ' '.join([shutil.which(words[0]), *words[1:]]))
-        os.chmod(path, 0o755)
+    """rbacaudit-show as its tests call it."""
 
     def environment(self, **more):
         mine = {name: value for name, value in os.environ.items() if name != 'COLUMNS'}
-        return {**mine, 'PATH': self.bin + os.pathsep + os.environ['PATH'], 'LC_ALL': 'C.UTF-8', 'TERM': 'xterm', 'NO_COLOR': '1', **more}
+        return {**mine, 'LC_ALL': 'C.UTF-8', 'TERM': 'xterm', 'NO_COLOR': '1', **more}
 
     def run(self, given, *words, **how):
         """Status, output and error over lines."""
@@ -80,10 +70,10 @@ class Filter:
         return process.returncode, out[0].replace(b'\r\n', b'\n').decode(), err.decode()
 
     def same(self, name, got, wanted):
-        same('%s: %s' % (self.name, name), got, wanted)
+        same(name, got, wanted)
 
     def checked(self, name, well, got=None):
-        checked('%s: %s' % (self.name, name), well, 'got %.2000r' % (got,))
+        checked(name, well, 'got %.2000r' % (got,))
 
 
 def all_of(terminal):
@@ -342,12 +332,12 @@ u:e\u0301ve ClusterRoleBinding/x
 u:\u202ekim\u2800 ClusterRoleBinding/x
 u:\\x2a ClusterRoleBinding/x''') + 'u: a  b \tClusterRoleBinding/  c\n', 80)[1]
     it.same('how names are shown', table, '''\
-WHO                 BINDING
-g:中文              ClusterRoleBinding/x
-u:e\u0301ve               ClusterRoleBinding/x
-u:\\xe2\\x80\\xaekim\u2800  ClusterRoleBinding/x
-u:\\x2a              ClusterRoleBinding/x
-u: a \\x20b\\x20      ClusterRoleBinding/ \\x20c
+WHO                            BINDING
+g:中文                         ClusterRoleBinding/x
+u:e\u0301ve                          ClusterRoleBinding/x
+u:\\xe2\\x80\\xaekim\\xe2\\xa0\\x80  ClusterRoleBinding/x
+u:\\x2a                         ClusterRoleBinding/x
+u: a \\x20b\\x20                 ClusterRoleBinding/ \\x20c
 ''')
     it.same('where wide characters are cut', it.on_terminal('u:aa中文中文中文\tRoleBinding/a/b\n', 23)[1], '''\
 WHO         BINDING
@@ -529,8 +519,7 @@ def pipes(it):
     ended = subprocess.run(['bash', '-c', 'yes "$1" | "$0" | head -n 2', SHOW, 'u:kim\tRoleBinding/a/b'], stdout=subprocess.PIPE, stderr=subprocess.PIPE,
                            env=it.environment(), timeout=60)
     it.same('head', (ended.returncode, ended.stdout, ended.stderr), (0, b'WHO    BINDING\nu:kim  RoleBinding/a/b\n', b''))
-    # (that is the awk's own message and status; busybox has none)
-    for many_ in (1, 1000) if it.name != 'busybox awk' else ():
+    for many_ in (1, 1000):
         with open('/dev/full', 'wb') as full:
             ended = subprocess.run([SHOW], input=ROWS.encode() * many_, stdout=full, stderr=subprocess.PIPE, env=it.environment(), timeout=60)
         it.checked('a full disk', ended.returncode and ended.stderr, ended)
@@ -655,10 +644,6 @@ def keys_in_document():
 
 def installed():
     """`make install` puts it where it is looked for; a link leads to it, and without the plugin's parts it says so."""
-    if shutil.which('shellcheck'):
-        same('shellcheck', told('shellcheck', '-x', '-e', 'SC2016', SHOW, cwd=TOP), (0, ''))
-    else:
-        skipped('shellcheck', 'rbacaudit-show')
     with tempfile.TemporaryDirectory() as room:
         # (the program is built, and isn't to be proved once more)
         subprocess.run(['make', '-s', '-o', 'build', 'install', 'PREFIX=' + room], cwd=TOP, check=True, timeout=60)
@@ -673,7 +658,7 @@ def installed():
             checked('installed: %s' % name, os.path.isfile(os.path.join(room, name)))
         shutil.rmtree(os.path.join(room, 'lib'))
         same("without the plugin's parts", told(os.path.join(room, 'link')),
-             (2, "rbacaudit-show: the parts of the plugin aren't there: make install puts them into lib/kubectl-rbacaudit\n"))
+             (2, "rbacaudit-show: the parts of the plugin aren't there: make install puts them into lib/rbacaudit\n"))
 
 
 def typed():
@@ -686,16 +671,10 @@ def typed():
          (2, b'', b'rbacaudit-show: lines come from a pipe or a file: rbacaudit rules u:kim *.json | rbacaudit-show\n'))
 
 
-def under_each_awk():
-    with tempfile.TemporaryDirectory() as room:
-        for words in AWKS:
-            if not shutil.which(words[0]):
-                skipped(words[0], 'rbacaudit-show')
-                continue
-            it = Filter(words, room)
-            for part in commands, colors, headless, words_below, remarks, texts, random_texts, no_utf8, seen, look_ahead, told_apart, refusals, pipes:
-                part(it)
+def formats():
+    for part in commands, colors, headless, words_below, remarks, texts, random_texts, no_utf8, seen, look_ahead, told_apart, refusals, pipes:
+        part(Filter())
 
 
 if __name__ == '__main__':
-    sys.exit(tested(under_each_awk, million, typed, answers, worked, helped, keys_in_document, installed))
+    sys.exit(tested(formats, million, typed, answers, worked, helped, keys_in_document, installed))

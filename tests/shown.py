@@ -10,7 +10,7 @@ import tempfile
 import browser
 from common import PROGRAM, TOP, checked, skipped
 from opened import COUNTS, LABELS, Shown
-from shown_names import common_verbs, many_namespaces, names, notices, spreadsheet, zoomed
+from shown_names import common_verbs, many_namespaces, names, notices, spreadsheet, strange_places, zoomed
 from shown_paths import PATHS
 from shown_scopes import joined, wide
 from written import (CHANGES, FINDINGS, NAMED, NAMES, SMALL, file_of, made, named_strangers,
@@ -533,7 +533,7 @@ def in_browser():
         with browser.browser() as it, tempfile.TemporaryDirectory() as room:
             it.ask('Browser.setDownloadBehavior', behavior='allow', downloadPath=room)
             for part in (small_page, watched, by_name, watch_heads, stars, joined, notices, names,
-                         common_verbs, spreadsheet, many_namespaces, zoomed, empty, widths,
+                         common_verbs, spreadsheet, strange_places, many_namespaces, zoomed, empty, widths,
                          hostile_page, cluster_page, themes, large, wide, *PATHS):
                 try:
                     part(it, room)

@@ -61,6 +61,30 @@ def spreadsheet(it, room):
     same('CSV', page.save('rows.csv'), '\ufeff"Who","Namespace","Verb","API group",'
          '"Resource or URL","Name","Binding"\r\n"u:a""b,c","\'=1+1","\'+x","\'@y","\'-z","",'
          '"ClusterRoleBinding/b"\r\n')
+    # (a full-width sign begins a formula too, and some take a semicolon for the end of a cell, in spite of quotes)
+    row = '\t'.join(['u:a', '＝1', '＋x', '＠y', '－z', 'b;=1', 'ClusterRoleBinding/;=1'])
+    page = Shown(it, room, 'more formulas', made([row])[1])
+    page.go('#rows')
+    same('CSV: full-width signs, and semicolons', page.save('rows.csv').splitlines()[1],
+         '"u:a","\'＝1","\'＋x","\'＠y","\'－z","b\\x3b=1","ClusterRoleBinding/\\x3b=1"')
+
+
+def strange_places(it, room):
+    """A namespace that the page doesn't have: each view says so, and the chooser shows what is shown."""
+    page = Shown(it, room, 'places', made(SMALL)[1])
+    said = 'This page has no namespace nope: only what holds everywhere is shown. '
+    for view in ('what', 'who', 'watch'):
+        page.go('#%s?ns=nope' % view)
+        same('a strange namespace: %s says so' % view, page.texts('.strange-place'), [said])
+        same('a strange namespace: %s shows it' % view, page.texts('select option:checked')[:1], ['nope (not on this page)'])
+        page.go('#%s?ns=dev' % view)
+        same('a strange namespace: %s forgets it' % view, (page.texts('.strange-place'), page.texts('.strange'),
+                                                            page.texts('select option:checked')[:1]), ([''], [], ['dev']))
+    page.go('#who?who=u:ann&ns=nope')
+    checked('a strange namespace: of somebody', page.text('main p.muted').startswith(said), page.text('main p.muted'))
+    page.go('#rows?namespace==nope')
+    checked('a strange namespace: of rows', page.text('.tools .muted').endswith(': this page has no namespace nope'), page.text('.tools .muted'))
+    page.is_quiet()
 
 
 def many_namespaces(it, room):

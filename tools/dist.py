@@ -88,7 +88,9 @@ def installed(stage):
     words = ['make', '-s', '-o', 'build', 'install', 'DESTDIR=' + stage, 'PREFIX=']
     subprocess.run(words, cwd=TOP, env=dict(os.environ, MAKEFLAGS=''), check=True)
     subprocess.run(['strip', os.path.join(stage, 'bin', 'rbacaudit')], check=True)
-    names = (os.path.join(folder, name) for folder, _, names in os.walk(stage) for name in names)
+    # (what Python compiles is of its own version)
+    names = (os.path.join(folder, name) for folder, _, names in os.walk(stage)
+             if os.path.basename(folder) != '__pycache__' for name in names)
     return {os.path.relpath(path, stage): packable(path) for path in names}
 
 

@@ -1,0 +1,157 @@
+"""diff: what a change lets users do, and what it takes from them."""
+
+from __future__ import annotations
+
+from .answer import Asking, ask, ask_shown, show_text
+from .errors import Refused
+from .export import open_export
+from .help import help_of
+from .manifests import Manifests, check_inputs, check_namespace, is_of_rbac, key_of_item, name_path, need_held, take_manifests
+from .options import Options, choose_format, read_options
+from .processes import Session
+from .question import Question, check_cluster
+from .remarks import first_three, look_for_universe
+from .stale import find_roles, rows_of
+from .terminal import print_text
+
+
+def diff_command(session: Session, words: list[str]) -> int:
+    """kubectl rbacaudit diff."""
+    options = read_options('diff', words)
+    if options.help:
+        print_text(help_of('diff'))
+        return 0
+    choose_format(options, 'diff --summary' if options.summary else 'diff')
+    session.need_rbacaudit()
+    check_sides(options)
+    is_alone = bool(options.before) and not options.exports
+    if not is_alone:
+        options.without, options.with_ = options.without or options.before, options.with_ or options.after
+    is_change = bool(options.without or options.with_)
+    check_cluster(session, options, is_alone, reads=len(options.exports) < (1 if is_change else 2))
+    asking = Asking(session, options, Question('diff'))
+    return compare_states(asking) if is_alone else compare_change(asking) if is_change else compare_exports(asking)
+
+
+def check_sides(options: Options) -> None:
+    """Refuses words that name no two sides: two exports, an export and the cluster as it is now, one of these and a change of it, or
+    two states of manifests, which are a change of an export where one is given."""
+    options.check_end()
+    paths = [path for path in (options.with_, options.without, options.before, options.after) if path]
+    if not options.exports and not paths:
+        raise Refused('diff needs --export DIR or --with PATH, or --from PATH and --to PATH; kubectl rbacaudit diff --help says more')
+    if bool(options.before) != bool(options.after):
+        raise Refused('--from and --to go together: the manifests before the change, and those after it')
+    if options.before and len(paths) > 2:
+        raise Refused('--from and --to are the whole change: give neither --with nor --without beside them')
+    if len(options.exports) > 1 and paths:
+        raise Refused('diff compares two exports, or one with a change: --with goes with one --export')
+    check_inputs(paths)
+    if options.namespace and not paths:
+        raise Refused("-n is the namespace of a change's objects that have none, so it needs --with PATH, --without PATH, or --from PATH "
+                      'and --to PATH')
+    check_namespace(options.namespace)
+
+
+# ---- two states of manifests
+
+def take_side(asking: Asking, name: str, path: str) -> Manifests:
+    """Reads the manifests of a side."""
+    found = take_manifests(asking.session, name, [path], asking.options.namespace)
+    look_for_universe(asking.session, found.file, found.named, idle=True)
+    asking.manifests[found.file] = found
+    return found
+
+
+def compare_states(asking: Asking) -> int:
+    """Compares manifests, without an export and without a cluster."""
+    sides = [take_side(asking, 'from', asking.options.before), take_side(asking, 'to', asking.options.after)]
+    need_held('compared', *sides)
+    # (with the other state's roles too, lint still misses those that neither has)
+    both = [side.file for side in sides]
+    found = (asking.session.capture(['rbacaudit', 'lint', '--only=L1', *both, last]) for last in both)
+    missing = first_three(row[4] for done in found for row in rows_of(done.out))
+    if missing:
+        asking.session.report('neither side has these roles, so bindings to them grant nothing here: %s; --export DIR compares with the '
+                              'roles of a cluster' % missing)
+    return compare(asking, ['--before', both[0], '--after', both[1]], *sides)
+
+
+# ---- exports
+
+def open_side(asking: Asking, folder: str, only_in: str = '') -> tuple[list[str], str, list[str]]:
+    """Opens an export, or a fresh one: its files, the namespace that it has alone, and its stale aggregates."""
+    export = asking.export = open_export(asking.session, asking.options, asking.question, folder, only_in)
+    stale = find_roles(asking)
+    if stale:
+        asking.session.report('stale aggregates (L6 of lint) in %s: %s; the cluster grants what is written in them, and these lines have '
+                              'what they gather' % (export.named, ', '.join(stale)))
+    return export.files('cluster.json', 'namespaced.json'), export.only, stale
+
+
+def compare_exports(asking: Asking) -> int:
+    """Compares two exports; a fresh one is of the namespace that the other is of."""
+    old, new = [*asking.options.exports, ''][:2]
+    before, only, _ = open_side(asking, old)
+    after, only_after, _ = open_side(asking, new, only)
+    if only_after != only:
+        asking.session.report('only one of the exports is of the namespace %s alone, so what it lacks counts as gained or lost'
+                              % (only_after or only))
+        if not asking.options.partial:
+            raise Refused('nothing is answered; --partial answers from what is there')
+    return compare(asking, ['--before', *before, '--after', *after])
+
+
+def compare_change(asking: Asking) -> int:
+    """Compares an export, or the cluster as it is now, with a change of it."""
+    options, session = asking.options, asking.session
+    gone = take_side(asking, 'without', options.without) if options.without else None
+    put = take_side(asking, 'with', options.with_) if options.with_ else None
+    need_held('compared', *(side for side in (gone, put) if side))
+    files, _, stale = open_side(asking, options.export)
+    words = ['--before', *files]
+    over = name_path(options.with_) + ' is put over'
+    if gone:
+        session.report('what %s has is taken from the export%s' % (gone.named, ', and %s it' % over if put else ''))
+        remark_on_absent(asking, gone, files)
+        words += ['--without', gone.file]
+    else:
+        session.report(over + ' the export: objects that the change deletes still count')
+    if put:
+        made = [role for role in find_roles(asking, put.file) if role not in stale]
+        if made:
+            session.report('this change makes stale aggregates (L6 of lint): %s; a cluster grants what is written in them, for ever if '
+                           'they select each other, and these lines have what they gather' % ', '.join(made))
+        words += ['--with', put.file]
+    return compare(asking, words, gone, put)
+
+
+def remark_on_absent(asking: Asking, gone: Manifests, files: list[str]) -> None:
+    """Reports what of the manifests that are taken away the export doesn't have: what both have is replaced for lint."""
+    both = asking.session.capture(['rbacaudit', 'lint', '--only=L7', *files, gone.file])
+    there = {row[2] for row in rows_of(both.out)}
+    absent = first_three({key_of_item(item) for item in gone.items if is_of_rbac(item)} - there)
+    if absent and both.status <= 1:
+        asking.session.report("the export doesn't have these, so nothing is taken away with them: %s" % absent)
+
+
+# ---- the answer
+
+def compare(asking: Asking, words: list[str], old: Manifests | None = None, new: Manifests | None = None) -> int:
+    """Asks about both sides, of which some objects may stand in manifests, and shows the answer; the status."""
+    options = asking.options
+    line, files = ['diff', *words], [word for word in words if not word.startswith('--')]
+    if not options.summary and not options.fail_on and options.format != 'sarif':
+        return ask_shown(asking, line, files)
+    done = ask(asking, line, files)
+    if done.status > 1:
+        return done.status
+    rows, text, status = rows_of(done.out), done.out, done.status
+    if options.summary or options.fail_on:
+        from .summary import summarize
+        summary, total = summarize(rows)
+        text, status = summary if options.summary else text, total.status(options.fail_on)
+    if options.format == 'sarif':
+        from .sarif import of_diff
+        text = of_diff(asking, old, new, rows)
+    return show_text(asking, text) or status

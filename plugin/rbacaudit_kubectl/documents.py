@@ -1,0 +1,50 @@
+"""JSON documents that others wrote: what stands where in them, and how messages name it."""
+
+from __future__ import annotations
+
+import json
+import os
+from contextlib import suppress
+from typing import Any
+
+from .escapes import bytes_of, text_of
+
+MOST_BYTES = 500    # of a text in a message
+
+
+def text_in(value: Any, *names: str) -> str:
+    """The text at this place in an object, or '' if there is none."""
+    for name in names:
+        value = value.get(name) if isinstance(value, dict) else None
+    return value if isinstance(value, str) else ''
+
+
+def told(text: str) -> str:
+    """A text in a message: as JSON has it, and cut where it is long. A character that is cut in two is dropped."""
+    data = bytes_of(json.dumps(text, ensure_ascii=False)[1:-1])
+    return text_of(data) if len(data) <= MOST_BYTES else data[:MOST_BYTES].decode('utf-8', 'ignore') + '..'
+
+
+def read_text(path: str) -> str:
+    """What is in a file. Nothing of a pipe, which can't be read again, nor of a file that nobody can read."""
+    with suppress(OSError):
+        if os.path.isfile(path):
+            with open(path, 'rb') as file:
+                return text_of(file.read())
+    return ''
+
+
+def read_document(path: str) -> Any:
+    """The JSON value in such a file, or None."""
+    with suppress(ValueError, RecursionError):
+        return json.loads(read_text(path))
+    return None
+
+
+def item_of(document: Any, item: int) -> tuple[Any, str]:
+    """An item of a list, counted from 1, or the document itself for 0; and its kind, which that of its list may imply."""
+    if not item:
+        return document, text_in(document, 'kind')
+    items = document.get('items') if isinstance(document, dict) else None
+    found = items[item - 1] if isinstance(items, list) and item <= len(items) else None
+    return found, text_in(found, 'kind') or text_in(document, 'kind').removesuffix('List')

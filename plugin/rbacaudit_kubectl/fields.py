@@ -1,0 +1,186 @@
+"""The lines that rbacaudit prints: the fields of each command, their escapes, and the powers of what a line allows."""
+
+from __future__ import annotations
+
+import functools
+import re
+from collections.abc import Sequence
+from dataclasses import dataclass
+
+from .escapes import bytes_of
+from .escapes import text_of as text_of_bytes
+
+# ---- escapes of a field
+
+_ESCAPE = re.compile(rb'\\(?:\\|x([0-9a-f]{2}))')
+_CONTROL = re.compile(r'[\x00-\x1f\x7f]')
+
+
+def in_key(text: str) -> str:
+    """A text as rbacaudit prints it in a key, such as that of a binding."""
+    return _CONTROL.sub(lambda one: '\\x%02x' % ord(one[0]), text.replace('\\', '\\\\'))
+
+
+def in_field(text: str) -> str:
+    """A text as rbacaudit prints it as a field."""
+    return in_key(text) if text not in ('', '-') else '\\x2d' if text else '-'
+
+
+def text_of(field: str) -> str:
+    """The text that a field stands for. Escapes are bytes: several may be one character."""
+    if '\\' not in field:
+        return '' if field == '-' else field
+    return text_of_bytes(_ESCAPE.sub(lambda one: bytes([int(one[1], 16)]) if one[1] else b'\\', bytes_of(field)))
+
+
+def words_of(field: str) -> list[str]:
+    """The words of a list, each as a field."""
+    return field[1:-1].split(',') if field != '[]' else []
+
+
+# ---- the powers: the steps by which somebody takes over somebody else
+
+# (the step; its verbs; its types, each with its group after the first dot; `cluster` where only a ClusterRoleBinding gives it, `named` where a rule
+# that is limited to object names gives it too. docs/BEHAVIOUR.md shows this table.)
+STEPS = (
+    ('impersonate', 'impersonate', 'users groups', 'cluster named'),
+    ('impersonate', 'impersonate', 'serviceaccounts', 'named'),
+    ('token', 'create', 'serviceaccounts/token', 'named'),
+    ('run', 'create', 'pods jobs.batch', ''),
+    ('run', 'create update patch', 'replicationcontrollers daemonsets.apps deployments.apps replicasets.apps statefulsets.apps cronjobs.batch', ''),
+    ('exec', 'create get', 'pods/attach pods/exec', ''),
+    ('exec', 'update patch', 'pods pods/ephemeralcontainers', ''),
+    ('secrets', 'get list watch', 'secrets', ''),
+    ('nodes', 'create get', 'nodes/proxy', 'cluster'),
+    ('bind', 'bind', 'clusterroles.rbac.authorization.k8s.io roles.rbac.authorization.k8s.io', 'named'),
+    ('escalate', 'escalate', 'clusterroles.rbac.authorization.k8s.io', 'cluster named'),
+    ('escalate', 'escalate', 'roles.rbac.authorization.k8s.io', 'named'),
+    ('certificates', 'update patch', 'certificatesigningrequests/approval.certificates.k8s.io', 'cluster'),
+    ('webhooks', 'create update patch', 'mutatingwebhookconfigurations.admissionregistration.k8s.io '
+     'validatingwebhookconfigurations.admissionregistration.k8s.io', 'cluster'))
+STEP_NAMES = tuple(dict.fromkeys(name for name, *_ in STEPS))
+
+
+@functools.lru_cache(maxsize=4096)
+def steps_of(verbs: tuple[str, ...], groups: tuple[str, ...], resources: tuple[str, ...], is_named: bool, is_in_cluster: bool) -> tuple[str, ...]:
+    """The steps that a rule gives, in the order of the table. Words are fields."""
+    def has(words: tuple[str, ...], *wanted: str) -> bool:
+        return '*' in words or any(word in words for word in wanted)
+
+    def has_type(type_: str) -> bool:
+        resource, _, group = type_.partition('.')
+        _, slash, below = resource.partition('/')
+        return has(groups, group or '-') and has(resources, resource, *(['*/' + below] if slash else []))
+
+    return tuple(dict.fromkeys(
+        name for name, of_verbs, types, where in STEPS if (is_in_cluster or 'cluster' not in where) and (not is_named or 'named' in where)
+        and has(verbs, *of_verbs.split()) and any(map(has_type, types.split()))))
+
+
+def powers_of(command: str, cells: Sequence[str]) -> tuple[str, ...]:
+    """The powers of a line of diff, of its summary, of matrix or of rules; lines of other commands tell none."""
+    if command == 'diff' and cells[2] != '-':  # (a URL has no namespace)
+        return steps_of((cells[3],), (cells[4],), (cells[5],), cells[6] not in ('*', '-'), cells[2] == '*')
+    if command == 'diff --summary':
+        return tuple(words_of(cells[5]) + words_of(cells[6]))
+    if command == 'matrix' and not cells[4].startswith('/'):
+        return steps_of((cells[2],), (cells[3],), (cells[4],), cells[5] != '-', cells[1] == '-')
+    if command == 'rules':
+        verbs, groups, resources, names = (tuple(words_of(cell)) for cell in cells[5:9])
+        return steps_of(verbs, groups, resources, bool(names) and '-' not in names, cells[0].startswith('C'))
+    return ()
+
+
+# ---- the lines of each command
+
+# (written so that no text is read twice: what follows a field is a tab or the end of the line)
+_REST = r'[^\\\x00-\x1f\x7f]*(?:\\(?:\\|x[0-9a-f]{2})[^\\\x00-\x1f\x7f]*)*'
+_WORD = r'(?:[^\\,\x00-\x1f\x7f]|\\(?:\\|x[0-9a-f]{2}))' + _REST.replace(r'[^\\', r'[^\\,')
+FIELD = r'(?=[^\t])' + _REST
+PRINCIPAL = '[ug]:' + FIELD
+# (names may have slashes, so it is enough that one of them parts two)
+ROLE, BINDING = (r'(?:Cluster{0}/(?=[^\t])|{0}/(?=[^\t]+/[^\t]))'.format(kind) + _REST for kind in ('Role', 'RoleBinding'))
+NUMBER = '[1-9][0-9]{0,17}'
+STEP = '(?:%s)' % '|'.join(STEP_NAMES)
+# What a field of each kind looks like. Fields of `any` may be *, which is no name then.
+KINDS = {
+    'text': FIELD, 'any': FIELD, 'detail': FIELD, 'who': PRINCIPAL, 'whose': '(?:%s|total)' % PRINCIPAL, 'binding': BINDING, 'role': ROLE,
+    'node': r'(?:%s|\*|%s)' % (PRINCIPAL, ROLE), 'next': r'(?:%s|[-*]|%s)' % (PRINCIPAL, ROLE), 'bound': '(?:-|%s)' % BINDING, 'held': '(?:-|%s)' % ROLE,
+    'number': NUMBER, 'count': '(?:0|%s)' % NUMBER, 'place': '(?:-|%s)' % NUMBER, 'list': r'\[(?:%s(?:,%s)*)?\]' % (_WORD, _WORD),
+    'code': 'L[1-9][0-9]*', 'sign': '[-+]', 'step': STEP, 'by': '(?:-|%s)' % STEP}
+
+
+@dataclass(frozen=True)
+class Shape:
+    """The lines of a command: which field says what they are about, and each field's head in tables, kind, and key in JSON."""
+    command: str
+    about: int
+    fields: tuple[tuple[str, str, str], ...]
+
+    @functools.cached_property
+    def pattern(self) -> re.Pattern[str]:
+        """What a whole line looks like, field by field."""
+        return re.compile('\t'.join(KINDS[kind] for _, kind, _ in self.fields))
+
+    def cells_of(self, line: str) -> list[str]:
+        """The fields of a line, or none if it isn't one of these."""
+        cells = line.split('\t') if self.pattern.fullmatch(line) else []
+        return [] if len(cells) == 11 and not tells_step(cells, self.command == 'paths') else cells
+
+
+def _shape(command: str, about: int, fields: str) -> Shape:
+    parts = ((word + '::').split(':')[:3] for word in fields.split())
+    return Shape(command, about, tuple((head, kind or 'text', key or head.lower()) for head, kind, key in parts))
+
+
+_GRANT = 'BINDING:binding ROLE:role SOURCE:role RULE:number SUBJECT:number'
+_HELD = 'BINDING:bound ROLE:held SOURCE:held RULE:place SUBJECT:place'
+_ROW = 'WHO:who NAMESPACE%s VERB GROUP RESOURCE NAME%s BINDING:binding'
+_FINDING = 'CODE:code NAME OBJECT PLACE:place DETAIL:detail'
+# (HEAD, HEAD:KIND or HEAD:KIND:KEY)
+SHAPES = (
+    _shape('can-i', 0, _GRANT),
+    _shape('who-can', 0, 'WHO:who BINDING:binding'),
+    _shape('who-can', 0, 'WHO:who ' + _GRANT),
+    _shape('rules', 0, _GRANT + ' VERBS:list GROUPS:list:api_groups RESOURCES:list NAMES:list:resource_names URLS:list:non_resource_urls'),
+    _shape('matrix', 0, _ROW % ('', '')),
+    _shape('lint', 2, _FINDING),
+    _shape('lint', 2, _FINDING + ' FILE'),
+    _shape('powers', 1, 'STEP:step WHO:who WHERE:any ' + _GRANT),
+    _shape('paths', 1, 'STEPS:number TO:node:who WHERE:any FROM:node WHERE:any:from_where STEP:step ' + _HELD),
+    _shape('who-can --indirect', 1, 'STEPS:count WHO:node WHERE:any TO:next WHERE:any:to_where STEP:by ' + _HELD),
+    _shape('diff', 1, 'CHANGE:sign ' + _ROW % (':any', ':any')),
+    _shape('diff --summary', 0, 'WHO:whose NAMESPACE:any BINDING:bound GAINED:count LOST:count POWERS_GAINED:list POWERS_LOST:list'))
+# A row has its shape and its fields. What is no row, such as the last line of a matrix, has this shape and itself.
+Row = tuple[Shape, list[str]]
+REMARK = Shape('', 0, ())
+
+
+# ---- which of two commands
+
+def _is_node(node: str, where: str) -> bool:
+    return node != '-' and node.startswith(('u:', 'g:')) == (where == '-')
+
+
+def _has(node: str, grant: Sequence[str]) -> bool:
+    """Whether a node has this grant: somebody by a binding, a role by its rules, and everything needs none."""
+    lacks = ''.join(str(int(cell == '-')) for cell in grant)
+    return lacks == ('00000' if node.startswith(('u:', 'g:')) else '11111' if node == '*' else '10001') and (lacks != '10001' or grant[1] == node)
+
+
+def _is_over(step: str, node: str) -> bool:
+    """Whether a step takes over such a node."""
+    if step in ('impersonate', 'bind'):
+        return node.startswith(('u:', 'g:')) == (step == 'impersonate')
+    return node == '*' if step in ('escalate', 'certificates', 'webhooks') else bool(re.fullmatch('u:system:serviceaccount:[^:]+:[^:]+', node))
+
+
+def tells_step(cells: Sequence[str], is_of_paths: bool) -> bool:
+    """Whether a line of paths, or of who-can --indirect, tells how a node takes over another or, with the number 0, why it allows the request itself.
+    Only so can the lines of the two commands be told apart."""
+    taken, taker = (cells[1:3], cells[3:5]) if is_of_paths else (cells[3:5], cells[1:3])
+    if not _is_node(*taker) or not _has(taker[0], cells[6:]):
+        return False
+    if cells[0] == '0':
+        return [*taken, cells[5]] == ['-', '-', '-']
+    return cells[5] != '-' and _is_node(*taken) and _is_over(cells[5], taken[0])

@@ -1,0 +1,131 @@
+"""The texts of --help. Lines on commands and options are made from their tables."""
+
+from __future__ import annotations
+
+from .options import COMMANDS, OF_DIFF, OF_EXPORT, OF_PAGE, OF_READ, OWN, SHOWN, described
+
+MAIN = '''\
+Answer questions about the RBAC of a cluster with rbacaudit. kubectl reads the cluster, and nothing in it is changed.
+
+{commands}
+
+can-i, who-can, rules, matrix, powers, paths and lint take rbacaudit's options (see can-i --help), and these:
+{options}
+
+Without --export, each question reads the cluster anew. For several questions, and for pages of a matrix, export first:
+  kubectl rbacaudit export prod
+  kubectl rbacaudit universe --export prod > universe.json
+  kubectl rbacaudit matrix --export prod universe.json
+
+PATH is a file or folder with manifests, a folder with a kustomization, or - for standard input. lint PATH reads no
+cluster. Without -n or -A, can-i and who-can ask about the namespace of the context, or of the context that the export
+was made with; rules lists the rules of all bindings. If -n doesn't count because a type is cluster-scoped, the plugin
+says so. For bind of cluster roles, and for use, it asks in the namespace, as a server does.
+
+FILEs are read before the files of the export: if both have an object, the export's counts. The exit status is
+rbacaudit's: 2 is an error. If a part that the command reads is missing, nothing is answered and the status is 2, unless
+--partial is given. Standard error lists each type, subresource, verb, namespace, user and group of the question that
+the export doesn't have, and warns of a subresource after a slash: pods/exec means a pod named exec.
+
+Needs: Python 3.9, rbacaudit on the PATH or beside this plugin and, but for exports, kubectl. --version prints versions.
+'''
+EXPORT = '''\
+Write everything that rbacaudit reads into the folder DIR, with your kubectl.
+
+  kubectl rbacaudit export [--force] [-n NS] [OPTION OF KUBECTL].. DIR
+
+  cluster.json, namespaced.json   cluster roles and roles, and their bindings
+  namespaces.json, accounts.json  namespaces, and service accounts of all namespaces
+  api-*.json                      the API resource list of each API version
+  about.txt                       the context, its server, namespace and version, when and which files were read
+  incomplete.txt                  what is missing, and the server's reason; a complete export has no such file
+
+{options}
+
+You need this ClusterRole, bound by a ClusterRoleBinding:
+  apiVersion: rbac.authorization.k8s.io/v1
+  kind: ClusterRole
+  metadata:
+    name: rbacaudit-export
+  rules:
+  - apiGroups: [rbac.authorization.k8s.io]
+    resources: [clusterroles, clusterrolebindings, roles, rolebindings]
+    verbs: [list]
+  - apiGroups: [""]
+    resources: [namespaces, serviceaccounts]
+    verbs: [list]
+  - nonResourceURLs: [/api, /api/*, /apis, /apis/*, /version]
+    verbs: [get]
+
+Each file is complete or missing, and for you alone. The calls of kubectl run at the same time, so a change during the
+export may be in some files only. Exit status: 0 the export is complete; 1 a part is missing, because you may not read
+it or a call failed; 2 nothing could be read or written. An earlier export in DIR then stays as it was, or has an
+incomplete.txt with the reason. Ask the export with --export DIR, as in:
+  kubectl rbacaudit can-i --export DIR --as alice -n dev get pods
+'''
+DIFF = '''\
+List what a change lets users do, and what it takes from them.
+
+  kubectl rbacaudit diff --export OLD --export NEW   from one export to another
+  kubectl rbacaudit diff --export OLD                from an export to the cluster as it is now
+  kubectl rbacaudit diff --export DIR --with PATH    what a change under review would do
+  kubectl rbacaudit diff --with PATH                 the same, to the cluster as it is now
+  kubectl rbacaudit diff --from PATH --to PATH       from some manifests to others, without a cluster; with
+                                                     --export DIR, what that change would do to its cluster
+{options}
+  -o sarif         the changes as SARIF, for code hosts, with the file of each binding or of its role
+
+PATH is a file, a folder (.json, .yaml and .yml, folders within), a folder with a kustomization, or - for standard
+input. kubectl reads it, without a cluster (kubectl rbacaudit read --help). Standard error says how many roles and
+bindings were read. Without --without, objects that the change deletes still count.
+
+A line begins with + for a permission that is gained, or with - for one that is lost; rbacaudit diff --help lists the
+fields. All requests of all users are compared, whether an export names them or not. The other options (--partial, -o,
+..) mean what kubectl rbacaudit --help says.
+Exit status: 0 nothing changes, or nothing that --fail-on names; 1 something does; 2 an error.
+'''
+READ = '''\
+Print the manifests at some paths as one List in JSON, as kubectl reads them.
+
+  kubectl rbacaudit read [-n NS] PATH..
+
+  PATH     a file; a folder: its .json, .yaml and .yml files, and those of folders within; a folder with a
+           kustomization, which kubectl renders; or - for standard input, such as helm template prints
+{options}
+
+Lint, and the options --with, --without, --from and --to of diff, read their PATH in the same way. kubectl reads neither
+a cluster nor a kubeconfig for it. Documents of every kind pass. Standard error says how many roles and bindings were
+read, and which have no namespace. This is refused:
+  - a file that kubectl can't read: kubectl's reason is printed first
+  - a folder without a manifest, with a Helm chart, or with a kustomization in a folder within
+  - a kind that rbac.authorization.k8s.io doesn't have, such as Clusterrole, and a role without apiVersion
+
+The List is for rbacaudit, as in:
+  kubectl rbacaudit read main/ > main.json
+  kubectl rbacaudit read change/ > change.json
+  rbacaudit diff --before main.json --after change.json
+'''
+PAGE = '''\
+Write everything about the export as one HTML file, which any current browser opens.
+
+  kubectl rbacaudit page [-n NS] [--output FILE] [--title TEXT] [--diff FILE] [--every] [FILE]..
+
+{options}
+
+The rows are those of matrix --once, over the universe that kubectl rbacaudit universe writes: without object names.
+What holds in the whole cluster is listed once, and the page shows it in each namespace. A FILE may be a Universe
+document of your own: each of its fields replaces a list of that universe. The page also shows the findings of lint. Its
+watch list counts separately who may do something only to objects with certain names, whether the Universe document has
+these names or not. --export, --partial, --context, --kubeconfig and --request-timeout mean what kubectl rbacaudit
+--help says. Exit status: 0 the page is written; 2 an error.
+'''
+# The text of a command, its options, and the column of what they do.
+TEXTS = {'': (MAIN, OWN + SHOWN, 21), 'export': (EXPORT, OF_EXPORT, 20), 'diff': (DIFF, OF_DIFF, 19), 'read': (READ, OF_READ, 11),
+         'page': (PAGE, OF_PAGE, 17)}
+
+
+def help_of(command: str) -> str:
+    """What --help of a command prints; a command without a text of its own has that of the plugin."""
+    text, options, width = TEXTS.get(command, TEXTS[''])
+    commands = '\n'.join('  kubectl rbacaudit %-36s  %s' % ('%s %s' % (name, it.usage), it.text) for name, it in COMMANDS.items())
+    return text.replace('{commands}', commands).replace('{options}', '\n'.join(described(options, width)))

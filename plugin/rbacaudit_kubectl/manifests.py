@@ -1,0 +1,272 @@
+"""Manifests: what kubectl reads from files, folders, kustomizations and standard input, as one List.
+
+kubectl takes every document with `items` for a list, whatever its kind, and several documents in one file. So JSON goes this way
+too, or a binding could hide where rbacaudit doesn't look for one.
+"""
+
+from __future__ import annotations
+
+import json
+import os
+from collections.abc import Iterator
+from dataclasses import dataclass, field
+from typing import Any, Dict
+
+from .documents import read_text, text_in, told
+from .errors import Refused
+from .escapes import bytes_of, on_one_line
+from .fields import in_key
+from .processes import Session
+
+Item = Dict[str, Any]
+KUSTOMIZATIONS = ('kustomization.yaml', 'kustomization.yml', 'Kustomization')
+RBAC = 'rbac.authorization.k8s.io/'
+ROLES, BINDINGS = ('Role', 'ClusterRole'), ('RoleBinding', 'ClusterRoleBinding')
+NAMESPACED = ('Role', 'RoleBinding', 'ServiceAccount')
+PATCH = ('kubectl', 'patch', '--local', '--type=merge', '-p', '{}', '-o', 'json')
+MOST_FILES, SIDE_BY_SIDE = 1000, 4   # in a call, and calls that go on at once
+
+
+@dataclass
+class Manifests:
+    """What was read from some paths: the items of its List with the file of each, and the file of the List."""
+    paths: list[str]
+    items: list[Item] = field(default_factory=list)
+    origins: list[str] = field(default_factory=list)
+    file: str = ''
+
+    @property
+    def named(self) -> str:
+        """What the paths are called in messages."""
+        return ', '.join(map(name_path, self.paths))
+
+
+def name_path(path: str) -> str:
+    return 'standard input' if path == '-' else path
+
+
+# ---- objects
+
+def is_of_rbac(item: Item) -> bool:
+    """Whether it is a role or a binding."""
+    return text_in(item, 'apiVersion').startswith(RBAC) and text_in(item, 'kind') in ROLES + BINDINGS
+
+
+def is_held(item: Item) -> bool:
+    """Whether rbacaudit holds such an object."""
+    return is_of_rbac(item) or text_in(item, 'apiVersion') == 'v1' and text_in(item, 'kind') in ('Namespace', 'ServiceAccount')
+
+
+def key_of(kind: str, namespace: str, name: str) -> str:
+    """An object as findings have it."""
+    return '%s/%s' % (kind, in_key((namespace or 'default') + '/' + name if kind in NAMESPACED else name))
+
+
+def key_of_item(item: Item) -> str:
+    return key_of(text_in(item, 'kind'), text_in(item, 'metadata', 'namespace'), text_in(item, 'metadata', 'name'))
+
+
+def role_of(binding: Item) -> str:
+    """The role that a binding refers to, in the same way."""
+    of_role = text_in(binding, 'roleRef', 'kind'), text_in(binding, 'metadata', 'namespace'), text_in(binding, 'roleRef', 'name')
+    return key_of(*of_role)
+
+
+# ---- what kubectl reads
+
+@dataclass
+class Call:
+    """A call of kubectl for a path. Of several files, a mark stands behind each one's objects."""
+    path: str
+    files: list[str]
+    words: list[str]
+
+
+def as_value(path: str) -> str:
+    """A path as a value of -f, which separates paths by commas."""
+    return '"%s"' % path.replace('"', '""') if ',' in path or '"' in path else path
+
+
+def calls_for(path: str, mark: str) -> Iterator[Call]:
+    """The calls that read a path."""
+    if '\n' in path:
+        raise Refused('%s has a line break in its name: give it another' % path)
+    if path == '-':
+        yield Call(path, [name_path(path)], ['-f', '-'])
+    elif not os.path.exists(path):
+        raise Refused('there is no %s' % path)
+    elif not os.access(path, os.R_OK):
+        raise Refused("can't read %s" % path)
+    elif os.path.basename(path) in KUSTOMIZATIONS:
+        raise Refused('%s says how kustomize renders its folder: give the folder' % path)
+    elif not os.path.isdir(path):
+        yield Call(path, [path], ['-f', as_value(path)])
+    elif any(os.path.exists(os.path.join(path, name)) for name in KUSTOMIZATIONS):
+        yield Call(path, [path], ['-k', path])
+    else:
+        files = files_in(path)
+        for some in (files[at:at + MOST_FILES] for at in range(0, len(files), MOST_FILES)):
+            yield Call(path, some, [word for file in some for word in ('-f', as_value(file), '-f', as_value(mark))])
+
+
+def files_in(folder: str) -> list[str]:
+    """The manifests of a folder and of those within, in kubectl's order: what a folder has stands where its name does."""
+    def refuse(_: OSError) -> None:
+        raise Refused("can't read all of %s" % folder)
+
+    found: list[str] = []
+    for path, folders, files in os.walk(folder, onerror=refuse):
+        if '\n' in ''.join(folders + files):
+            raise Refused('a file or folder in %s has a line break in its name: give it another' % folder)
+        # (for kubectl, a link to a folder is a file)
+        files += [name for name in folders if os.path.islink(os.path.join(path, name))]
+        found += [os.path.join(path, name) for name in files if name.endswith(('.json', '.yaml', '.yml')) or name in KUSTOMIZATIONS]
+    if not found:
+        raise Refused('there is no manifest in %s: no file within has a name that ends in .json, .yaml or .yml' % folder)
+    found.sort(key=lambda path: bytes_of(path).replace(b'/', b'\1'))
+    for within, name in (os.path.split(path) for path in found):
+        if name == 'Chart.yaml':
+            raise Refused('{0} is a Helm chart: render it first, as in helm template {0} | kubectl rbacaudit read -'.format(within))
+        if name in KUSTOMIZATIONS:
+            raise Refused("{0} has a kustomization, so what its files have isn't what is applied: give {0} itself, or another "
+                          'folder that has a kustomization'.format(within))
+    return without_links(folder, found)
+
+
+def without_links(folder: str, files: list[str]) -> list[str]:
+    """The files, without links to others of them. A link out of the folder is refused: whoever wrote it may not read there."""
+    links = {path: os.path.realpath(path) for path in files if os.path.islink(path)}
+    for path, target in links.items():
+        if not target.startswith(os.path.join(os.path.realpath(folder), '')):
+            raise Refused('%s is a link that leads out of %s, so nothing is read' % (path, folder))
+    read = {os.path.realpath(path) for path in files if path not in links} if links else set()
+    # (of several links to one file, the first counts)
+    kept = {target: path for path, target in reversed(links.items()) if target not in read}.values()
+    return [path for path in files if path not in links or path in kept]
+
+
+def run_calls(session: Session, calls: list[Call]) -> Iterator[tuple[Call, int, str]]:
+    """Makes calls, some at a time: the status of each and what it printed. What it said is told on one line."""
+    # (kubectl reads neither a cluster nor a kubeconfig here, and a third of its time goes into garbage that needn't be collected)
+    environment = {'GOGC': '400', **session.environment, 'KUBECONFIG': os.devnull, 'KUBERC': 'off'}
+    for some in (calls[at:at + SIDE_BY_SIDE] for at in range(0, len(calls), SIDE_BY_SIDE)):
+        going = []
+        for number, call in enumerate(some):
+            paths = [session.path('%s.%d' % (name, number)) for name in ('printed', 'said')]
+            with open(paths[0], 'wb') as printed, open(paths[1], 'wb') as said:
+                going.append((call, session.start([*PATCH, *call.words], stdout=printed, stderr=said, env=environment), paths))
+        for call, child, paths in going:
+            status, texts = session.end(child), [*map(read_text, paths)]
+            session.say(on_one_line(texts[1].rstrip('\n')) + '\n' if texts[1] else '')
+            yield call, status, texts[0]
+
+
+def read_objects(session: Session, paths: list[str]) -> Iterator[tuple[str, str, Item]]:
+    """The objects at some paths: the file of each, its text and what it says. What kubectl can't read is refused."""
+    session.need('kubectl', 'it reads the manifests; install it (https://kubernetes.io/docs/tasks/tools)')
+    # (no manifest has its name, which is made up anew each time)
+    mark = {'apiVersion': 'rbacaudit/v1', 'kind': 'EndOfFile', 'metadata': {'name': os.urandom(16).hex()}}
+    file_of_mark = session.write('mark.json', json.dumps(mark))
+    unread = ''
+    for call, status, printed in run_calls(session, [call for path in paths for call in calls_for(path, file_of_mark)]):
+        unread = unread or (call.path if status else '')
+        files = iter(call.files)
+        file = next(files)
+        for text, item in objects_in(printed) if not unread else ():
+            if item == mark:
+                file = next(files, '')
+            else:
+                yield file, text, item
+    if unread:
+        raise Refused("kubectl can't read %s, so nothing is answered" % name_path(unread))
+
+
+def objects_in(printed: str) -> Iterator[tuple[str, Item]]:
+    """The objects that kubectl printed, one behind the other, each with its text."""
+    decode, at, printed = json.JSONDecoder().raw_decode, 0, printed.rstrip()
+    try:
+        while at < len(printed):
+            item, end = decode(printed, at)
+            yield printed[at:end], item
+            at = end + 1    # (a newline)
+    except (ValueError, RecursionError):
+        raise Refused("what kubectl printed can't be read, so nothing is answered") from None
+
+
+# ---- what manifests have
+
+def take_manifests(session: Session, name: str, paths: list[str], namespace: str = '', offers: bool = True) -> Manifests:
+    """Reads manifests into a list of this name, says what it has, and puts what has no namespace into this one."""
+    found, texts, bare = Manifests(paths), [], []
+    for origin, text, item in read_objects(session, paths):
+        check_item(item, origin)
+        if text_in(item, 'kind') in NAMESPACED and is_held(item) and not text_in(item, 'metadata', 'namespace'):
+            bare += ['%s/%s' % (item['kind'], told(text_in(item, 'metadata', 'name')) or '""')] * is_of_rbac(item)
+            if namespace:
+                item['metadata'] = {**(item.get('metadata') or {}), 'namespace': namespace}
+                text = json.dumps(item, indent=4, ensure_ascii=False)
+        texts.append(text)
+        found.items.append(item)
+        found.origins.append(origin)
+    kinds = [item['kind'] for item in found.items if is_of_rbac(item)]
+    roles = sum(kind in ROLES for kind in kinds)
+    counts = (roles, 'role'), (len(kinds) - roles, 'binding'), (len(texts) - len(kinds), 'other object')
+    session.report('read from %s: %s' % (found.named, ', '.join('%d %s%s' % (many, of, 's'[many == 1:]) for many, of in counts)))
+    if bare:
+        first = ', '.join(bare[:3]) + (' and %d more' % (len(bare) - 3) if len(bare) > 3 else '')
+        offer = '; -n NS counts them in NS' if offers and not namespace else ''
+        session.report('these have no namespace, and count in %s: %s%s' % (namespace or 'default', first, offer))
+    elif namespace:
+        session.report('no object of %s lacks a namespace, so -n %s changes nothing' % (found.named, namespace))
+    whole = '{"apiVersion":"v1","kind":"List","items":[\n%s\n]}\n' % '\n,\n'.join(texts)
+    found.file = session.write('manifests-%s.json' % name, whole)
+    return found
+
+
+def check_item(item: Item, origin: str) -> None:
+    """Refuses an object that looks like a role or a binding, and is none."""
+    kind, version = text_in(item, 'kind'), text_in(item, 'apiVersion')
+    if version.startswith(RBAC) and not is_of_rbac(item):
+        raise Refused("%s has the kind %s, which rbac.authorization.k8s.io doesn't have: check the spelling" % (origin, told(kind)))
+    if not version and kind in ROLES + BINDINGS:
+        raise Refused('%s has a %s without an apiVersion, so no cluster takes it' % (origin, kind))
+
+
+def need_held(undone: str, *sides: Manifests) -> None:
+    """Refuses manifests that hold nothing to answer about, and says what isn't done with them."""
+    if not any(is_of_rbac(item) for side in sides for item in side.items):
+        names = [side.named for side in sides]
+        has_none = 'neither %s nor %s has a role or a binding' if names[1:] else '%s has neither a role nor a binding'
+        raise Refused('%s, so nothing is %s: check each kind and apiVersion in %s' % (
+            has_none % tuple(names), undone, 'them' if names[1:] else 'it'))
+
+
+# ---- words about manifests, and the command read
+
+def check_inputs(paths: list[str]) -> None:
+    if paths.count('-') > 1:
+        raise Refused('standard input can be read once: give - as one PATH alone')
+
+
+def check_namespace(name: str) -> None:
+    if name.strip('abcdefghijklmnopqrstuvwxyz0123456789.-'):
+        raise Refused('there is no namespace %s: its name would have lower-case letters, digits and dashes alone' % name)
+
+
+def read_command(session: Session, words: list[str]) -> int:
+    """kubectl rbacaudit read: the manifests at some paths as one List."""
+    from .help import help_of
+    from .options import read_options
+    from .terminal import print_text
+    options = read_options('read', words)
+    if options.help:
+        print_text(help_of('read'))
+        return 0
+    options.check_end()
+    if not options.paths:
+        raise Refused('read needs a path: a file, a folder, or - for standard input')
+    check_inputs(options.paths)
+    check_namespace(options.namespace)
+    found = take_manifests(session, 'read', options.paths, options.namespace)
+    print_text(read_text(found.file), as_json=True)
+    return 0

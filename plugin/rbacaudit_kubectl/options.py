@@ -1,0 +1,232 @@
+"""Options: one table, from which words are read, and help, completions and the man page are made."""
+
+from __future__ import annotations
+
+from collections.abc import Iterator
+from dataclasses import dataclass
+
+from .errors import Ended, Refused
+from .terminal import is_terminal, print_text
+
+
+@dataclass(frozen=True)
+class Option:
+    """An option: its spellings, what its value is called, the field of Options that it sets (one of rbacaudit's own has none), what it does."""
+    names: str
+    value: str = ''
+    field: str = ''
+    text: str = ''
+    repeats: bool = False
+
+    @property
+    def spellings(self) -> tuple[str, ...]:
+        return tuple(self.names.split(','))
+
+    @property
+    def long(self) -> str:
+        return self.spellings[-1]
+
+
+AS_KUBECTL = 'as in kubectl'
+TARGETS = (Option('--context', 'NAME', 'context', AS_KUBECTL), Option('--kubeconfig', 'FILE', 'kubeconfig', AS_KUBECTL),
+           Option('--request-timeout', 'TIME', 'timeout', AS_KUBECTL))
+OWN = (Option('--export', 'DIR', 'exports', 'answer from the export in DIR, without a cluster', True),
+       Option('--partial', '', 'partial', 'answer although a part of the export is missing'), *TARGETS)
+SHOWN = (Option('-o,--output', 'FORMAT', 'format', 'table (on a terminal), wide, json, name, tsv: plain lines (elsewhere); lint, diff: sarif'),
+         Option('--no-headers', '', 'headless', 'a table without its head'),
+         Option('--color', 'WHEN', 'color', 'with colors: auto, always or never (rbacaudit-show --help)'))
+OF_DIFF = (
+    Option('--with', 'PATH', 'with_', 'manifests whose objects are added to the export, or replace its objects'),
+    Option('--without', 'PATH', 'without', 'manifests whose objects are first removed from the export, by kind, namespace and name'),
+    Option('--from', 'PATH', 'before', 'the manifests before the change; with --export, the same as --without'),
+    Option('--to', 'PATH', 'after', 'the manifests after the change; with --export, the same as --with'),
+    Option('-n,--namespace', 'NS', 'namespace', 'the namespace for roles and bindings of manifests that have none (default: default)'),
+    Option('--summary', '', 'summary', 'counts instead of lines: the permissions gained and lost for each who, where and binding, the powers '
+           'among them, which are ways to take over somebody else, and a total'),
+    Option('--fail-on', 'WHAT', 'fail_on', 'end with status 1 for changes (default), only for gains, or only for powers that are gained'))
+OF_READ = (Option('-n,--namespace', 'NS', 'namespace', 'put the roles and bindings that have no namespace into NS'),)
+OF_PAGE = (
+    Option('-n,--namespace', 'NS', 'namespace', 'the page of one namespace: its rows, and those of the whole cluster'),
+    Option('--output', 'FILE', 'output', 'write the page into this file, whole or not at all; without it the page goes to standard output'),
+    Option('--title', 'TEXT', 'title', 'the title of the page'),
+    Option('--diff', 'FILE', 'diff', 'changes to show with the rows: lines of rbacaudit diff'),
+    Option('--every', '', 'every', 'a row for every binding that grants a request, not only for the first'))
+OF_EXPORT = (
+    Option('--force', '', 'force', 'replace all files of an export that DIR holds; other files in DIR stay'),
+    Option('-n,--namespace', 'NS', 'namespace', 'read only the namespace NS: use this if you may read no other'), *TARGETS,
+    Option('--as', 'USER', 'as_user', AS_KUBECTL), Option('--as-group', 'GROUP', 'as_groups', AS_KUBECTL, True))
+# rbacaudit's own, which the plugin passes on: their values have to be known for what they are.
+PASSED = {option.long: option for option in (
+    Option('--as', 'USER'), Option('--groups', 'A,B'), Option('--group', 'G', repeats=True), Option('-n,--namespace', 'NS'),
+    Option('-A,--all-namespaces'), Option('--in-namespace'), Option('--subresource', 'S'), Option('-q,--quiet'), Option('--why'),
+    Option('--anywhere'), Option('--any-name'), Option('--every'), Option('--indirect'), Option('--steps', 'STEPS'), Option('--once'),
+    Option('--after', 'TOKEN'), Option('--limit', 'N'), Option('--only', 'CODES'), Option('--skip-system'))}
+SCOPE = '--namespace --all-namespaces --in-namespace --subresource '
+
+
+@dataclass(frozen=True)
+class Command:
+    """A command: how it is written, what it does, its places, of which FILE stands for any number, and its options."""
+    usage: str
+    text: str
+    places: str = ''
+    passed: str = ''
+    own: tuple[Option, ...] = OWN + SHOWN
+
+    @property
+    def options(self) -> tuple[Option, ...]:
+        return (*(PASSED[name] for name in self.passed.split()), *self.own, Option('-h,--help', '', 'help'))
+
+
+COMMANDS: dict[str, Command] = {
+    'can-i': Command('--as USER [-n NS] VERB TARGET', 'may USER do that: yes (exit status 0) or no (1)', 'VERB TARGET FILE',
+                     SCOPE + '--as --groups --group --quiet --why'),
+    'who-can': Command('[-n NS] VERB TARGET', 'who may do that; with --indirect, by taking over others too', 'VERB TARGET FILE',
+                       SCOPE + '--anywhere --any-name --every --why --indirect --steps'),
+    'rules': Command('[-n NS] WHO', 'which rules the user u:NAME or the group g:NAME has', 'WHO FILE', '--groups --group --namespace --all-namespaces'),
+    'matrix': Command('[FILE]..', 'everything that anyone may do', 'FILE', '--every --once --after --limit'),
+    'powers': Command('[FILE]..', 'who can act as others or gain permissions', 'FILE'),
+    'paths': Command('WHO', 'whom and what u:NAME or g:NAME can take over, step by step', 'WHO FILE', '--groups --group --steps'),
+    'lint': Command('[PATH]..', 'what looks wrong with roles and bindings: status 1 if any', 'FILE', '--only --skip-system'),
+    'diff': Command('--export OLD --export NEW', 'permissions gained and lost: status 1 if any (diff --help)', own=OF_DIFF + OWN + SHOWN),
+    'read': Command('PATH..', 'manifests as JSON, for rbacaudit (read --help)', 'FILE', own=OF_READ),
+    'universe': Command('', 'a Universe document to start from, for matrix', own=OWN),
+    'page': Command('--output access.html', 'all of it as a page for a browser (page --help)', 'FILE', own=OF_PAGE + OWN),
+    'export': Command('DIR', 'keep the files, for many questions (export --help)', 'DIR', own=OF_EXPORT)}
+FORMATS = ('table', 'wide', 'json', 'name', 'tsv')
+VALUES = {'--color': ('auto', 'always', 'never'), '--fail-on': ('changes', 'gains', 'powers')}
+PATHS = ('--with', '--without', '--from', '--to')
+
+
+class Options:
+    """What the plugin's own options say, by the fields of the table; `paths` are the other words."""
+
+    def __init__(self, command: str = '') -> None:
+        self.command, self.paths, self.exports, self.as_groups = command, list[str](), list[str](), list[str]()
+        self.context = self.kubeconfig = self.timeout = self.namespace = self.as_user = self.title = self.diff = self.output = ''
+        self.format = self.color = self.fail_on = self.with_ = self.without = self.before = self.after = ''
+        self.partial = self.force = self.every = self.headless = self.summary = self.help = False
+        self.awaits = ''    # the last word, if it is an option that needs a value
+
+    @property
+    def export(self) -> str:
+        return self.exports[0] if self.exports else ''
+
+    def check_end(self) -> None:
+        if self.awaits:
+            raise Refused('%s needs a value' % self.awaits)
+
+    def take(self, token: Token, option: Option) -> None:
+        """Takes an option with its value. One that is empty, from an unset variable, would ask another cluster than was meant; and a word that
+        begins with a dash is an option: the value was forgotten."""
+        told = '-o' if option.names == '-o,--output' else token.name
+        value, given = token.value, getattr(self, option.field)
+        takes_two = told == '--export' and self.command == 'diff'
+        if value is None or not option.value:
+            self.awaits = told if option.value else ''
+            setattr(self, option.field, given if option.value else True)
+            return
+        if len(token.words) > 1 and value.startswith('-') and not (value == '-' and told in PATHS):
+            raise Refused('%s needs a value; if %s is the value, write %s=%s' % (told, value, told, value))
+        if not value:
+            raise Refused('%s needs a value' % told)
+        if takes_two and len(given) == 2:
+            raise Refused('diff takes two exports, and --export is given three times')
+        if given and not takes_two and told not in ('--color', '--as-group'):
+            raise Refused('%s is given twice' % told)
+        if told == '--color' and value not in VALUES[told]:
+            raise Refused('there is no color %s: --color takes auto, always or never' % value)
+        if told == '--fail-on' and value not in VALUES[told]:
+            raise Refused("diff can't fail on %s: --fail-on takes changes, gains or powers" % value)
+        if told in (*PATHS, '--export'):
+            value = safe_path(value) if told == '--export' else manifest_path(value)
+        setattr(self, option.field, [*given, value] if option.repeats else value)
+
+
+@dataclass(frozen=True)
+class Token:
+    """An option with its value, or another word of a line; a word that looks like an option and is none has a name."""
+    words: list[str]
+    option: Option | None = None
+    name: str = ''
+    value: str | None = None    # nothing if the line ends before it
+
+
+def tokens_of(command: str, words: list[str]) -> Iterator[Token]:
+    """Takes a line apart, as rbacaudit does."""
+    known = {name: option for option in COMMANDS[command].options for name in option.spellings}
+    left, literal = [*words], False
+    while left:
+        word = left.pop(0)
+        if literal or not word.startswith('-') or word == '-':
+            yield Token([word])
+            continue
+        literal = word == '--'
+        # (letters such as those of -qAn)
+        while not word.startswith('--') and word[2:] and word[:2] in known and not known[word[:2]].value:
+            yield Token([word[:2]], known[word[:2]], word[:2], '')
+            word = '-' + word[2:]
+        name, equals, value = word.partition('=')
+        if not word.startswith('--') and word[2:] and word[2] != '=':
+            name, equals, value = word[:2], '=', word[2:]   # -nshop
+        option = known.get(name)
+        if option is None or (equals and not option.value):
+            yield Token([word], None, word)
+        elif equals or not option.value:
+            yield Token([name + (equals and '=' + value)], option, name, value)
+        else:
+            apart = left[:1]
+            del left[:1]
+            yield Token([name, *apart], option, name, *apart)
+
+
+def safe_path(path: str) -> str:
+    """The path, written so that no program takes it for an option or an assignment."""
+    return './' + path if path.startswith('-') or ('=' in path and not path.startswith('/')) else path
+
+
+def manifest_path(path: str) -> str:
+    """The same for manifests: - is standard input."""
+    return path if path == '-' else safe_path(path)
+
+
+def read_options(command: str, words: list[str]) -> Options:
+    """Reads the words of a command whose options are all the plugin's own; help ends the run."""
+    options = Options(command)
+    for token in tokens_of(command, words):
+        if token.option:
+            options.take(token, token.option)
+        elif not COMMANDS[command].places or (token.name and not (command == 'page' and token.name == '--')):
+            raise Refused('%s has no %s; kubectl rbacaudit%s --help lists its options' % (
+                command, token.name or token.words[0], '' if command == 'universe' else ' ' + command))
+        elif not token.name:
+            options.paths.append(manifest_path(token.words[0]) if command == 'read' else token.words[0])
+    if options.help:
+        from .help import help_of
+        print_text(help_of(command))
+        raise Ended(0)
+    return options
+
+
+def formats_of(command: str) -> tuple[str, ...]:
+    return FORMATS + ('sarif',) if command in ('lint', 'diff') else FORMATS
+
+
+def choose_format(options: Options, said_of: str) -> None:
+    """Checks the format, before anything is read. Without -o it is a table on a terminal."""
+    options.format, known = options.format or ('table' if is_terminal(1) else 'tsv'), formats_of(said_of)
+    if options.format not in known:
+        raise Refused('%s has no format %s: -o takes %s or %s' % (said_of, options.format, ', '.join(known[:-1]), known[-1]))
+
+
+def described(options: tuple[Option, ...], width: int, most: int = 116) -> Iterator[str]:
+    """Lines of help on options; what several do alike stands once."""
+    for text in dict.fromkeys(option.text for option in options):
+        names = ', '.join(('%s %s' % (option.spellings[0], option.value)).strip() for option in options if option.text == text)
+        line = ('  ' + names).ljust(width - 2) + ' '
+        for word in text.split():
+            if len(line) + len(word) >= most:
+                yield line
+                line = ' ' * (width - 1)
+            line += ' ' + word
+        yield line

@@ -1,0 +1,300 @@
+"""rbacaudit-show: the lines of rbacaudit's commands as a table, as JSON, or as names."""
+
+from __future__ import annotations
+
+import binascii
+import functools
+import json
+import os
+import re
+import signal
+from collections.abc import Iterable, Iterator, Mapping, Sequence
+from dataclasses import dataclass
+
+from . import VERSION
+from .errors import Ended, Refused
+from .escapes import bytes_of, escaped
+from .escapes import text_of as text_of_bytes
+from .fields import NUMBER, REMARK, SHAPES, Row, Shape, text_of, words_of
+from .table import Table
+from .terminal import has_colors, is_terminal, print_text, report
+
+PROGRAM = 'rbacaudit-show'
+CHOICES = {'-o': ('format', 'table', 'wide', 'json', 'name'), '--color': ('color', 'auto', 'always', 'never')}
+USAGE = '''\
+Show the lines of rbacaudit: as a table, as JSON, or as names.
+
+  rbacaudit rules u:kim *.json | rbacaudit-show [-o FORMAT]
+
+  -o FORMAT, --output FORMAT
+                 table  aligned columns under a head (default). On a terminal a
+                        line is no longer than the screen: the widest columns
+                        are cut, and a cut field ends in ...
+                 wide   the same, and nothing is cut
+                 json   an object for each line, on a line of its own
+                 name   only who or what a line is about, once if several
+                        lines in a row are about the same
+  --no-headers   a table without its head
+  --color WHEN   auto (default), always or never. In a table + is green, - is
+                 red, and powers are bold: permissions by which somebody takes
+                 over somebody else. auto: on a terminal, unless TERM is dumb
+                 or NO_COLOR is set
+  --rules FILE   lines of rbacaudit rules: in a table of --why, the words of
+                 the rule are below each row, if the file has the rule
+  --indirect     take lines that could also be of paths as lines of who-can
+                 --indirect
+  -h, --help     print help
+  -V, --version  print version
+
+rbacaudit-show knows the command by the number of fields and the first field:
+  can-i          yes or no; BINDING ROLE SOURCE RULE SUBJECT
+  who-can        WHO BINDING
+  who-can --why  WHO BINDING ROLE SOURCE RULE SUBJECT
+  who-can --indirect
+                 STEPS WHO WHERE TO WHERE STEP BINDING ROLE SOURCE RULE SUBJECT
+  rules          BINDING ROLE SOURCE RULE SUBJECT VERBS GROUPS RESOURCES NAMES
+                 URLS
+  matrix         WHO NAMESPACE VERB GROUP RESOURCE NAME BINDING; end, or next
+                 and a token
+  lint           CODE NAME OBJECT PLACE DETAIL, and FILE from the plugin
+  powers         STEP WHO WHERE BINDING ROLE SOURCE RULE SUBJECT
+  paths          STEPS TO WHERE FROM WHERE STEP BINDING ROLE SOURCE RULE SUBJECT
+  diff           CHANGE WHO NAMESPACE VERB GROUP RESOURCE NAME BINDING
+  diff --summary of the plugin: WHO NAMESPACE BINDING GAINED LOST POWERS_GAINED
+                 POWERS_LOST, and at last total in the place of WHO
+
+All lines have to be of one command. The answer of who-can --indirect begins
+with lines whose STEPS is 0. Without them, a line may be taken as one of paths:
+use --indirect. The first 500 lines of a table set the widths of its columns.
+The width of the screen is $COLUMNS or, if it isn't set, the terminal's.
+
+Exit status: 0 all lines are shown; 2 an error, also a line that no command
+prints. The status of rbacaudit itself is lost in a pipe: with set -o pipefail
+bash keeps it.
+'''
+
+# ---- reading
+
+# What is no row: the answers of can-i, and the last line of a matrix.
+REMARKS = (('can-i', re.compile('yes|no')), ('matrix', re.compile(r'end|next\t[A-Za-z0-9_-]+')))
+UNKNOWN = ('no command of rbacaudit prints this: expected lines of can-i, who-can, rules, matrix, lint, powers, '
+           'paths or diff; rbacaudit-show --help lists their fields')
+
+
+@dataclass
+class Reader:
+    """Knows of which command lines are. All have to be of one, and their rows of one shape."""
+    is_indirect: bool = False   # whether lines that could also be of paths aren't
+    command: str = ''
+    shape: Shape | None = None
+    fault: str = ''             # of the line at which reading ended
+
+    def rows_of(self, lines: Iterable[str]) -> Iterator[Row]:
+        """The rows of lines, and what is none, until a line that is neither."""
+        for number, line in enumerate(lines, 1):
+            cells = self.shape.cells_of(line) if self.shape else []
+            if not cells and self.is_remark(line):
+                yield REMARK, [line]
+                continue
+            for shape in () if self.shape else SHAPES:
+                is_meant = shape.command == self.command if self.command else not (self.is_indirect and shape.command == 'paths')
+                cells = cells or (shape.cells_of(line) if is_meant and len(shape.fields) == line.count('\t') + 1 else [])
+                if cells and not self.shape:
+                    self.shape, self.command = shape, shape.command
+            if not cells or not self.shape:
+                self.fault = 'standard input line %d: %s' % (number, self.fault_of(line))
+                return
+            yield self.shape, cells
+
+    def is_remark(self, line: str) -> bool:
+        """Whether a line is a remark of the command, which it may be the first to tell."""
+        for command, form in REMARKS:
+            if self.command in ('', command) and form.fullmatch(line):
+                self.command = command
+                return True
+        return False
+
+    def fault_of(self, line: str) -> str:
+        """What is wrong with a line, and what was expected."""
+        if not self.command:
+            return 'this is JSON, as universe prints it: expected lines of another command' if line.startswith('{') else UNKNOWN
+        shape = self.shape or next(shape for shape in SHAPES if shape.command == self.command)
+        return 'no line of %s as before: expected %s%d fields: %s%s' % (
+            self.command, 'yes, no, or ' if self.command == 'can-i' else '', len(shape.fields),
+            ' '.join(head for head, _, _ in shape.fields), ', or end, or next and a token' if self.command == 'matrix' else '')
+
+
+# ---- names and JSON
+
+def names_of(rows: Iterable[Row]) -> Iterator[str]:
+    """Who or what lines are about, once if several in a row are about the same."""
+    last = ''
+    for shape, cells in rows:
+        name = last if shape is REMARK else cells[shape.about]
+        if name not in (last, 'total'):
+            yield name + '\n'
+        last = name
+
+
+ENCODER = json.JSONEncoder(ensure_ascii=False, separators=(',', ':'))
+SURROGATE = re.compile('[\ud800-\udfff]')
+
+
+def value_of(cell: str, kind: str) -> object:
+    """The value of a field in JSON."""
+    if kind == 'list':
+        return [text_of(word) for word in words_of(cell)]
+    if kind in ('number', 'count', 'place'):
+        return None if cell == '-' else int(cell)
+    if kind == 'any' and cell == '*':
+        return None
+    return cell if kind == 'sign' else text_of(cell)
+
+
+def json_of(value: object) -> str:
+    """A value as JSON, in which what isn't to be seen is a code, wherever it goes, and no UTF-8 is U+FFFD."""
+    return escaped(SURROGATE.sub('\ufffd', ENCODER.encode(value)), as_json=True)
+
+
+def member_of(key: str, kind: str, cell: str) -> str:
+    """A field in the object of its line, and beside it the bytes of texts that aren't UTF-8."""
+    value = value_of(cell, kind)
+    texts = value if isinstance(value, list) else [value] if isinstance(value, str) else []
+    member = '"%s":%s' % (key, json_of(value))
+    if not any(map(SURROGATE.search, texts)):
+        return member
+    beside = [binascii.b2a_base64(bytes_of(text), newline=False).decode() for text in texts]
+    return '%s,"%s_bytes":%s' % (member, key, json_of(beside if kind == 'list' else beside[0]))
+
+
+# (the same short fields come in many lines)
+member_of_short = functools.lru_cache(maxsize=4096)(member_of)
+
+
+def keys_of(shape: Shape, cells: Sequence[str]) -> Iterator[tuple[str, str]]:
+    """The key and the kind of each field of a line."""
+    for _, kind, key in shape.fields:
+        # (the detail of these findings is the place of a rule or of a document)
+        is_place = kind == 'detail' and cells[0] in ('L3', 'L7') and re.fullmatch(NUMBER, cells[4])
+        yield key, 'number' if is_place else kind
+
+
+def objects_of(rows: Iterable[Row]) -> Iterator[str]:
+    """An object for each line."""
+    for shape, cells in rows:
+        if shape is REMARK:
+            word, _, token = cells[0].partition('\t')
+            yield '{%s}\n' % {'next': '"next":"%s"' % token, 'end': '"end":true', 'yes': '"allowed":true', 'no': '"allowed":false'}[word]
+            continue
+        members = [member_of_short(key, kind, cell) if len(cell) < 100 else member_of(key, kind, cell)
+                   for (key, kind), cell in zip(keys_of(shape, cells), cells)]
+        if cells[0] == 'total':
+            members[:3] = ['"total":true']
+        yield '{%s}\n' % ','.join(members)
+
+
+# ---- the command
+
+def read_options(words: Sequence[str]) -> dict[str, str]:
+    """The words of the command line: the value of each option, by its name."""
+    found, left = {'-o': 'table', '--color': 'auto', '--rules': ''}, [*words]
+    while left:
+        word = left.pop(0)
+        name, has_value, value = word.partition('=')
+        if word.startswith('-o') and word != '-o':
+            name, has_value, value = '-o', '=', word[2:].removeprefix('=')
+        if word in ('-h', '--help', '-V', '--version'):
+            print_text(USAGE if word in ('-h', '--help') else '%s %s\n' % (PROGRAM, VERSION))
+            raise Ended(0)
+        if word in ('--no-headers', '--indirect'):
+            found[word] = 'yes'
+        elif name in ('-o', '--output', '--color', '--rules'):
+            if not has_value and not left:
+                raise Refused(name + (' needs a value' if name in ('--color', '--rules') else ' needs a format: table, wide, json or name'))
+            found[name.replace('--output', '-o')] = value if has_value else left.pop(0)
+            check_values(found)
+        elif len(word) > 1 and word.startswith('-'):
+            raise Refused('there is no option %s; rbacaudit-show --help lists them' % word)
+        else:
+            raise Refused('there is no word %s in this command: rbacaudit-show reads from a pipe, or from a file as in rbacaudit-show < FILE' % word)
+    return found
+
+
+def check_values(found: Mapping[str, str]) -> None:
+    """Refuses values that mean nothing."""
+    for name, (what, *choices) in CHOICES.items():
+        if found[name] not in choices:
+            raise Refused('there is no %s %s: %s takes %s or %s' % (what, found[name], name, ', '.join(choices[:-1]), choices[-1]))
+    if found['--rules'] and (not os.path.isfile(found['--rules']) or not os.access(found['--rules'], os.R_OK)):
+        raise Refused("can't read " + found['--rules'])
+
+
+def width_of_screen(environment: Mapping[str, str]) -> int:
+    """How many columns the terminal has that standard output goes to."""
+    given = environment.get('COLUMNS', '')
+    if re.fullmatch(NUMBER, given):
+        return int(given)
+    try:
+        return os.get_terminal_size(1).columns or 80
+    except OSError:
+        return 80
+
+
+def show(lines: Iterable[bytes], form: str, *, headers: bool = True, color: str = 'auto', rules: str | None = None,
+         indirect: bool = False) -> int:
+    """Writes lines in a form, as they come, and gives the status. `rules` are lines of rules for a table."""
+    reader, on_terminal = Reader(indirect), is_terminal(1)
+    given = (text_of_bytes(line).removesuffix('\n') for line in lines)
+    if form == 'json':
+        texts = objects_of(reader.rows_of(given))
+    elif form == 'name':
+        texts = names_of(reader.rows_of(map(escaped, given) if on_terminal else given))
+    else:
+        screen = width_of_screen(os.environ) if form == 'table' and on_terminal else 0
+        table = Table(headers, has_colors(color, os.environ), on_terminal, screen)
+        table.take_rules((rules or '').split('\n'))
+        texts = table.texts_of(reader.rows_of(map(table.seen, given)))
+    with open(1, 'w', encoding='utf-8', errors='surrogateescape', newline='\n', closefd=False) as out:
+        for text in texts:
+            out.write(text)
+            if on_terminal:
+                out.flush()
+    if reader.fault:
+        report(reader.fault, PROGRAM)
+    return 2 if reader.fault else 0
+
+
+def lines_in(number: int) -> Iterator[bytes]:
+    """The lines of an open file, by its number."""
+    try:
+        with open(number, 'rb', closefd=False) as file:
+            yield from file
+    except OSError as fault:
+        raise Refused("can't read standard input: %s" % fault.strerror) from None
+
+
+def run(words: Sequence[str]) -> int:
+    """Shows what standard input has."""
+    options, rules = read_options(words), ''
+    if is_terminal(0):
+        raise Refused('lines come from a pipe or a file: rbacaudit rules u:kim *.json | rbacaudit-show')
+    if options['--rules']:
+        with open(options['--rules'], encoding='utf-8', errors='surrogateescape', newline='\n') as file:
+            rules = file.read()
+    return show(lines_in(0), options['-o'], headers='--no-headers' not in options, color=options['--color'], rules=rules,
+                indirect='--indirect' in options)
+
+
+def main(words: Sequence[str]) -> int:
+    """The program rbacaudit-show: its status."""
+    for number in (signal.SIGPIPE, signal.SIGINT):
+        signal.signal(number, signal.SIG_DFL)
+    try:
+        return run(words)
+    except Ended as end:
+        return end.status
+    except Refused as fault:
+        report(str(fault), PROGRAM)
+    except OSError as fault:
+        report("can't write: %s" % fault.strerror, PROGRAM)
+    return 2

@@ -1,0 +1,79 @@
+"""Which files of a folder are read, what calls of kubectl read them, and what objects are called."""
+
+import json
+import os
+import tempfile
+import unittest
+
+from rbacaudit_kubectl import manifests
+from rbacaudit_kubectl.errors import Refused
+
+BINDING = {'apiVersion': 'rbac.authorization.k8s.io/v1', 'kind': 'RoleBinding', 'metadata': {'name': 'b\\\n'},
+           'roleRef': {'kind': 'ClusterRole', 'name': 'view'}}
+
+
+class Folder(unittest.TestCase):
+    def setUp(self):
+        self.folder = tempfile.TemporaryDirectory()
+        self.addCleanup(self.folder.cleanup)
+
+    def put(self, *names):
+        for name in names:
+            path = self.at(name)
+            os.makedirs(os.path.dirname(path), exist_ok=True)
+            with open(path, 'w', encoding='utf-8') as file:
+                file.write('kind: Role')
+
+    def at(self, name):
+        return os.path.join(self.folder.name, name)
+
+    def found(self):
+        return [os.path.relpath(path, self.at('m')) for path in manifests.files_in(self.at('m'))]
+
+    def refused(self, said):
+        with self.assertRaisesRegex(Refused, said):
+            manifests.files_in(self.at('m'))
+
+    def test_order(self):
+        self.put('m/b.yaml', 'm/a/z.yml', 'm/a-b.json', 'm/.c.json', 'm/notes.txt', 'm/a/b/y.json')
+        self.assertEqual(self.found(), ['.c.json', 'a/b/y.json', 'a/z.yml', 'a-b.json', 'b.yaml'])
+
+    def test_a_link_within_is_read_once(self):
+        self.put('m/a.yaml', 'm/notes.txt', 'm/in/b.yaml')
+        for name, target in (('m/z.yaml', 'a.yaml'), ('m/0.yaml', 'in/b.yaml'), ('m/n1.yaml', 'notes.txt'), ('m/n2.yaml', 'notes.txt'), ('m/more', 'in')):
+            os.symlink(target, self.at(name))
+        self.assertEqual(self.found(), ['a.yaml', 'in/b.yaml', 'n1.yaml'])
+
+    def test_a_link_that_leads_out(self):
+        for target in (self.at('other/x.yaml'), '../../mm/x.yaml', '/proc/self/environ', '../in/../../other/x.yaml', '..'):
+            self.put('m/a.yaml', 'm/in/a.yaml', 'mm/x.yaml', 'other/x.yaml')
+            os.symlink(target, self.at('m/in/x.yaml'))
+            self.refused('m/in/x.yaml is a link that leads out of .*/m, so nothing is read')
+            os.remove(self.at('m/in/x.yaml'))
+
+    def test_calls(self):
+        self.put(*('m/%04d.yaml' % number for number in range(1001)), 'm/a,"b".yaml')
+        calls = list(manifests.calls_for(self.at('m'), '/tmp/mark.json'))
+        self.assertEqual([len(call.files) for call in calls], [1000, 2])
+        self.assertEqual(calls[1].words[4:], ['-f', '"%s"' % self.at('m/a,""b"".yaml'), '-f', '/tmp/mark.json'])
+        self.put('m/Kustomization')
+        self.assertEqual([call.words for call in manifests.calls_for(self.at('m'), 'mark')], [['-k', self.at('m')]])
+
+
+class Objects(unittest.TestCase):
+    def test_names(self):
+        self.assertEqual(manifests.key_of_item(BINDING), 'RoleBinding/default/b\\\\\\x0a')
+        self.assertEqual(manifests.role_of(BINDING), 'ClusterRole/view')
+        self.assertEqual(manifests.role_of({**BINDING, 'roleRef': {'kind': 'Role', 'name': 'r'}, 'metadata': {'namespace': 'n'}}), 'Role/n/r')
+
+    def test_what_rbacaudit_holds(self):
+        held = [manifests.is_held({'apiVersion': version, 'kind': kind}) for version in (manifests.RBAC + 'v1', 'v1', 'example.com/v1', '')
+                for kind in ('Role', 'Namespace', 'Pod')]
+        self.assertEqual(held, [True, False, False, False, True, False] + [False] * 6)
+
+    def test_texts_stay_as_they_are(self):
+        first, second = '{\n    "a": 1.00\n}', json.dumps(BINDING)
+        self.assertEqual(list(manifests.objects_in('%s\n%s\n' % (first, second))), [(first, {'a': 1}), (second, BINDING)])
+        for bad in ('{} x', '[' * 100_000):
+            with self.assertRaisesRegex(Refused, "can't be read"):
+                list(manifests.objects_in(bad))
