@@ -31,7 +31,7 @@ use Rattle.rbac_paths.specs.Paths.{ArePathsOf, PathView}
 use Rattle.rbac_paths.specs.Powers.{ArePowers, PowerView}
 use Rattle.rbac_paths.specs.Access.{AccessView}
 use Rattle.rbac_paths.specs.WaysTo.{AreWaysTo, WayView}
-use Rattle.rbac_paths.specs.declared.steps.Step.{Step}
+use Rattle.rbac_steps.specs.declared.steps.Step.{Step}
 use Rattle.rbac_document.proofs.OneDocument.{one_document}
 use Rattle.rbac_question.specs.declared.command.Action.{Action}
 use Rattle.rbac_question.specs.declared.command.Action.TheVariants.{CanI, WhoCan, WaysTo, Rules, Matrix, Universe, Lint, Powers, Paths, Diff}

@@ -16,7 +16,7 @@ use Rattle.rbac_paths.specs.Access.{AccessView}
 use Rattle.rbac_paths.specs.Paths.{ArePathsOf, PathView}
 use Rattle.rbac_paths.specs.Principals.{IsOneWith}
 use Rattle.rbac_paths.specs.WaysTo.{AreWaysTo, WayView}
-use Rattle.rbac_paths.specs.declared.steps.Step.{Step}
+use Rattle.rbac_steps.specs.declared.steps.Step.{Step}
 
 -- who is given no groups is named by its key alone
 key_alone : (who : Who) → given_of who ≡ [] → principal_name who ≡ who_texts who

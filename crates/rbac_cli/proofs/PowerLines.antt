@@ -10,8 +10,8 @@ use Rattle.rbac_text.specs.Why.{reason_text}
 use Rattle.rbac_universe.proofs.OneMore.{as_any}
 use Rattle.rbac_paths.specs.Lines.{power_text}
 use Rattle.rbac_paths.specs.Powers.{PowerView, power_place}
-use Rattle.rbac_paths.specs.Steps.{step_word}
-use Rattle.rbac_paths.specs.declared.steps.Step.{Step}
+use Rattle.rbac_steps.specs.Steps.{step_word}
+use Rattle.rbac_steps.specs.declared.steps.Step.{Step}
 use Rattle.rbac_cli.specs.Agreement.{HasNoPowerLine}
 use Rattle.rbac_cli.specs.Out.{powers_text}
 use Rattle.rbac_cli.specs.TextLines.{lines_in}

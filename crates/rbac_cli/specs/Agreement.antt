@@ -8,9 +8,9 @@ use Rattle.rbac_manifest.specs.Load.{LoadedView}
 use Rattle.rbac_text.specs.Row.{field_and_tab}
 use Rattle.rbac_paths.specs.Agreement.{AgreeOn}
 use Rattle.rbac_paths.specs.Paths.{ArePathsOf, PathView}
-use Rattle.rbac_paths.specs.Steps.{step_word}
+use Rattle.rbac_steps.specs.Steps.{step_word}
 use Rattle.rbac_paths.specs.WaysTo.{AreWaysTo, WayView}
-use Rattle.rbac_paths.specs.declared.steps.Step.{Step}
+use Rattle.rbac_steps.specs.declared.steps.Step.{Step}
 use Rattle.rbac_question.specs.declared.command.Question.{Question}
 use Rattle.rbac_cli.specs.Meant.{IsMeant, access_meant}
 use Rattle.rbac_cli.specs.Out.{paths_text, ways_text}

@@ -11,7 +11,7 @@ ghost use Rattle.rbac_document.specs.Document.{AreReadable};
 ghost use Rattle.rbac_streams.specs.Streams.{SinkView};
 ghost use Rattle.rbac_streams.specs.Taken.{Took};
 ghost use Rattle.rbac_question.specs.declared.command.Action.{Action};
-ghost use Rattle.rbac_paths.specs.declared.steps.Step.{Step};
+ghost use Rattle.rbac_steps.specs.declared.steps.Step.{Step};
 ghost use Rattle.rbac_question.specs.declared.command.Action.TheVariants.{Diff, Paths, Powers};
 ghost use Rattle.rbac_question.specs.declared.command.Action.TheVariants.{Universe, WaysTo};
 ghost use Rattle.rbac_question.specs.declared.command.Change.{Change};

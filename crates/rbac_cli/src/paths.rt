@@ -5,7 +5,7 @@ ghost use Rattle.std.specs.Global.{Global};
 ghost use Rattle.rbac_terms.specs.Principals.{Who};
 ghost use Rattle.rbac_model.specs.Lists.{IsAscendingBy};
 ghost use Rattle.rbac_model.specs.Unions.{who_texts};
-ghost use Rattle.rbac_paths.specs.declared.steps.Step.{Step as PathStep};
+ghost use Rattle.rbac_steps.specs.declared.steps.Step.{Step as PathStep};
 ghost use Rattle.rbac_question.specs.declared.command.Action.TheVariants.{Paths as ListsPaths};
 ghost use Rattle.rbac_cli.specs.Printing.{EndsPrinting};
 ghost use Rattle.rbac_cli.specs.declared.exports.Exports.TheVariants.{Single};

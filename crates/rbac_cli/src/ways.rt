@@ -2,7 +2,7 @@
 
 ghost use Rattle.std.specs.Prelude.{◌≡◌, Vec, false, vec_items};
 ghost use Rattle.std.specs.Global.{Global};
-ghost use Rattle.rbac_paths.specs.declared.steps.Step.{Step as PathStep};
+ghost use Rattle.rbac_steps.specs.declared.steps.Step.{Step as PathStep};
 ghost use Rattle.rbac_question.specs.declared.command.Action.TheVariants.{WaysTo};
 ghost use Rattle.rbac_cli.specs.Printing.{EndsPrinting};
 ghost use Rattle.rbac_cli.specs.declared.exports.Exports.TheVariants.{Single};

@@ -16,7 +16,7 @@ use Rattle.rbac_model.specs.Policies.{GrantView}
 use Rattle.rbac_model.proofs.LabelSets.{any_push, none_any}
 use Rattle.rbac_paths.specs.Finding.{AddsPowers, Found, IsBySubject}
 use Rattle.rbac_paths.specs.Powers.{PowerView, who_and_where}
-use Rattle.rbac_paths.specs.declared.steps.Step.{Step}
+use Rattle.rbac_steps.specs.declared.steps.Step.{Step}
 
 -- an entry that is kept is still there
 module _ {X : Type 0} where

@@ -15,7 +15,7 @@ use Rattle.rbac_paths.specs.Nodes.{NodeView, Somebody, ClusterRoleIn, OwnRole, E
 use Rattle.rbac_paths.specs.Paths.{ArePaths, ArePathsOf, GoesTo, IsPath, LeadsTo, PathView}
 use Rattle.rbac_paths.specs.Principals.{AreToldByKeys, IsOneWith}
 use Rattle.rbac_paths.specs.WaysTo.{AreWays, AreWaysTo, GoesBack, IsComeTo, IsWayOn, WayView}
-use Rattle.rbac_paths.specs.declared.steps.Step.{Step}
+use Rattle.rbac_steps.specs.declared.steps.Step.{Step}
 use Rattle.rbac_paths.proofs.OnePaths.{paths_to}
 
 same_or_not : (a b : Text) → (a ≡ b) ⊎ (a ≢ b)

@@ -20,7 +20,7 @@ use Rattle.rbac_text.specs.Row.{tab}
 use Rattle.rbac_text.proofs.Choices.{choice_text-one, field-one}
 use Rattle.rbac_paths.specs.Finding.{AreWithGrants, FindsPowers, Found}
 use Rattle.rbac_paths.specs.Powers.{ArePowersOf, GivesStep, GivesThere, IsPower, PowerView, power_place, who_and_where}
-use Rattle.rbac_paths.specs.declared.steps.Step.{Step}
+use Rattle.rbac_steps.specs.declared.steps.Step.{Step}
 use Rattle.rbac_paths.proofs.Entries.{strict}
 use Rattle.rbac_paths.proofs.Mapped.{some_is}
 

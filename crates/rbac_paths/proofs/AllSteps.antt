@@ -5,7 +5,7 @@ use Rattle.rbac_model.proofs.OwnWords.{any_from}
 use Rattle.rbac_model.specs.Policies.{PolicyView}
 use Rattle.rbac_paths.specs.Finding.{AreWithGrants}
 use Rattle.rbac_paths.specs.Powers.{ArePowersIn, ArePowersOf, GivesStep, IsPower, PowerView}
-use Rattle.rbac_paths.specs.declared.steps.Step.{Step}
+use Rattle.rbac_steps.specs.declared.steps.Step.{Step}
 use Rattle.rbac_paths.proofs.Choosing.{among, only}
 
 -- the powers of these steps, with the powers by each grant among them

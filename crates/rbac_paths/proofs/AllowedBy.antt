@@ -13,7 +13,7 @@ use Rattle.rbac_paths.specs.Nodes.{NodeView, Somebody, ClusterRoleIn, OwnRole, E
 use Rattle.rbac_paths.specs.Steps.{asked_in}
 use Rattle.rbac_paths.specs.Taking.{CanTakeOver, RuleTakes}
 use Rattle.rbac_paths.specs.Told.{HoldingTakes, HoldingsTake}
-use Rattle.rbac_paths.specs.declared.steps.Step.{Step}
+use Rattle.rbac_steps.specs.declared.steps.Step.{Step}
 use Rattle.rbac_paths.proofs.ByRules.{rule_takes, takes_over}
 
 -- ---- the rule that allows every request

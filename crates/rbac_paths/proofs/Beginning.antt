@@ -12,10 +12,10 @@ use Rattle.rbac_model.proofs.OwnWords.{any_from}
 use Rattle.rbac_paths.specs.Nodes.{NodeView, Somebody}
 use Rattle.rbac_paths.specs.Paths.{ArePathsOf, GoesTo, IsPath, LeadsTo, PathView}
 use Rattle.rbac_paths.specs.Powers.{ArePowers, GivesStep, GivesThere, IsPower, PowerView}
-use Rattle.rbac_paths.specs.Steps.{steps as all_steps}
+use Rattle.rbac_steps.specs.Steps.{steps as all_steps}
 use Rattle.rbac_paths.specs.Taking.{CanTakeOver}
 use Rattle.rbac_paths.specs.Telling.{CanTake}
-use Rattle.rbac_paths.specs.declared.steps.Step.{Step}
+use Rattle.rbac_steps.specs.declared.steps.Step.{Step}
 use Rattle.rbac_paths.proofs.AllSteps.{each_listed}
 use Rattle.rbac_paths.proofs.Telling.{given, in_steps}
 

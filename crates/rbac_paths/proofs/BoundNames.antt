@@ -18,7 +18,7 @@ use Rattle.rbac_model.specs.Policies.{Held}
 use Rattle.rbac_paths.specs.BoundNames.{AreBoundNames, BindsNamed, IsBoundName}
 use Rattle.rbac_paths.specs.Rows.{AreOfStep, MatchesRow}
 use Rattle.rbac_paths.specs.Steps.{StepRowView, table}
-use Rattle.rbac_paths.specs.declared.steps.Step.TheVariants.{Bind}
+use Rattle.rbac_steps.specs.declared.steps.Step.TheVariants.{Bind}
 use Rattle.rbac_paths.proofs.WordsAdded.{AddsOf}
 
 module _ (rows : List StepRowView) (of : AreOfStep Bind table rows) (rule : Rule) where

@@ -10,7 +10,7 @@ use Rattle.rbac_paths.specs.Having.{NodeAllows}
 use Rattle.rbac_paths.specs.Nodes.{NodeView}
 use Rattle.rbac_paths.specs.Steps.{asked_in, table}
 use Rattle.rbac_paths.specs.Taking.{CanTakeOver, RowTakes, RuleTakes}
-use Rattle.rbac_paths.specs.declared.steps.Step.{Step}
+use Rattle.rbac_steps.specs.declared.steps.Step.{Step}
 
 module _ (p : PolicyView) (x : NodeView) (step : Step) (y : NodeView) (home : Option Text) (rule : Rule) where
   -- if a node allows the requests of a rule where the rule counts, it can take over what the rule

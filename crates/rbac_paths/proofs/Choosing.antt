@@ -3,7 +3,7 @@ use Rattle.std.proofs.Common.{◌≡◌, ◌⊎◌, ◌∙◌, zero, suc, List, 
 use Rattle.std.proofs.lemmas.List.Elements.{Contains-append_left, Contains-append_right, Contains-append_cases}
 use Rattle.rbac_paths.specs.Rows.{AddsRow, AreOfStep}
 use Rattle.rbac_paths.specs.Steps.{StepRowView}
-use Rattle.rbac_paths.specs.declared.steps.Step.{Step}
+use Rattle.rbac_steps.specs.declared.steps.Step.{Step}
 
 module _ {X : Type 0} where
   pub last : (xs : List X) (x : X) → Contains (xs ++ x ∷ []) x

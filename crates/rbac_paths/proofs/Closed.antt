@@ -29,13 +29,13 @@ use Rattle.rbac_paths.specs.TakingOver.{MayGoOn, HasAll, IsUntold, TakesByStep}
 use Rattle.rbac_paths.proofs.AllowedBy.{allow_by}
 use Rattle.rbac_paths.proofs.ByRules.{takes_over}
 use Rattle.rbac_paths.proofs.Mapped.{one_element}
-use Rattle.rbac_paths.specs.declared.steps.Step.{Step}
+use Rattle.rbac_steps.specs.declared.steps.Step.{Step}
 use Rattle.rbac_paths.specs.declared.table.Counts.{Counts}
 use Rattle.rbac_paths.specs.declared.table.Counts.TheVariants as counted
 use Rattle.rbac_paths.specs.declared.table.Names.TheVariants as names
 use Rattle.rbac_paths.specs.declared.table.Over.{Over}
 use Rattle.rbac_paths.specs.declared.table.Over.TheVariants as over
-use Rattle.rbac_paths.specs.declared.steps.Step.TheVariants.{Bind}
+use Rattle.rbac_steps.specs.declared.steps.Step.TheVariants.{Bind}
 
 -- the rule is written in some role that is held
 abbrev pub IsWritten : Held → Rule → Type 0

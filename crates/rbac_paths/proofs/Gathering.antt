@@ -13,7 +13,7 @@ use Rattle.rbac_model.proofs.BindingPlaces.{of_some_binding, places_rise}
 use Rattle.rbac_model.specs.Holders.{HasKey}
 use Rattle.rbac_paths.specs.Finding.{AddsPowers, FindsPowers, Found, GivesNone, IsFirstGiving, IsGrantOf}
 use Rattle.rbac_paths.specs.Powers.{GivesThere, IsPower, PowerView, who_and_where}
-use Rattle.rbac_paths.specs.declared.steps.Step.{Step}
+use Rattle.rbac_steps.specs.declared.steps.Step.{Step}
 use Rattle.rbac_paths.proofs.Adding.{none_some, still_some}
 use Rattle.rbac_paths.proofs.Giving.{own_binding}
 

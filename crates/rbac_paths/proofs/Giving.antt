@@ -11,7 +11,7 @@ use Rattle.rbac_paths.specs.Finding.{GivesNone, IsFirstGiving}
 use Rattle.rbac_paths.specs.Rows.{AreOfStep}
 use Rattle.rbac_paths.specs.Steps.{AllowsIn, StepRowView, table}
 use Rattle.rbac_terms.specs.declared.granting.Binding.{Binding}
-use Rattle.rbac_paths.specs.declared.steps.Step.{Step}
+use Rattle.rbac_steps.specs.declared.steps.Step.{Step}
 
 module _ (step : Step) (rows : List StepRowView) (of : AreOfStep step table rows) (namespace : Option Text) (rule : Rule) where
   pub by_rows : Any (AllowsIn namespace rule) rows → AllowsStep step namespace rule

@@ -12,7 +12,7 @@ use Rattle.rbac_paths.specs.Joints.{TakesByWords}
 use Rattle.rbac_paths.specs.Nodes.{Somebody}
 use Rattle.rbac_paths.specs.SharedWords.{GrantTakesWord, StepTakesWord, TakeWord}
 use Rattle.rbac_paths.specs.Told.{grant_holding}
-use Rattle.rbac_paths.specs.declared.steps.Step.{Step}
+use Rattle.rbac_steps.specs.declared.steps.Step.{Step}
 use Rattle.rbac_paths.proofs.Mapped.{is_element, one_element}
 use Rattle.rbac_paths.proofs.WhatDecides.{given_decide}
 use Rattle.rbac_paths.proofs.WordsTaken.{takes_by_words}

@@ -8,7 +8,7 @@ use Rattle.rbac_model.specs.Policies.{BindingNames, GrantView, IsPolicy, PolicyV
 use Rattle.rbac_paths.specs.Nodes.{NodeView, Somebody}
 use Rattle.rbac_paths.specs.Steps.{asked_in}
 use Rattle.rbac_paths.specs.Taking.{CanTakeOver, RuleTakes}
-use Rattle.rbac_paths.specs.declared.steps.Step.{Step}
+use Rattle.rbac_steps.specs.declared.steps.Step.{Step}
 use Rattle.rbac_paths.proofs.ByRules.{rule_takes, takes_over}
 
 -- by the grant, the principal can take over the node by the step

@@ -10,7 +10,7 @@ use Rattle.rbac_paths.specs.Joints.{DecidesOf, DecidingView, IsDeciding}
 use Rattle.rbac_paths.specs.Nodes.{NodeView}
 use Rattle.rbac_paths.specs.Tracing.{AreLinked}
 use Rattle.rbac_paths.specs.TracingWays.{AllowAtEnds, AreLinkedOn}
-use Rattle.rbac_paths.specs.declared.steps.Step.{Step}
+use Rattle.rbac_steps.specs.declared.steps.Step.{Step}
 use Rattle.rbac_paths.proofs.Mapped.{some_is}
 
 -- of the one node at its place

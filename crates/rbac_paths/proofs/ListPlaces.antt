@@ -19,7 +19,7 @@ use Rattle.rbac_paths.specs.Joints.{AreFewGrants, AreJoints, DecideOn, IsNobody,
 use Rattle.rbac_paths.specs.Nodes.{NodeView, Somebody, ClusterRoleIn, OwnRole, EverythingIn}
 use Rattle.rbac_paths.specs.SharedWords.{AreGrantWords, GrantTakesWord}
 use Rattle.rbac_paths.specs.Told.{grant_holding}
-use Rattle.rbac_paths.specs.declared.steps.Step.{Step}
+use Rattle.rbac_steps.specs.declared.steps.Step.{Step}
 use Rattle.rbac_paths.proofs.GrantWords.{give, given, takes_by_grants}
 use Rattle.rbac_paths.proofs.GraphOf.{pushed}
 use Rattle.rbac_paths.proofs.Mapped.{is_element, one_element}

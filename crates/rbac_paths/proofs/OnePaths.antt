@@ -18,7 +18,7 @@ use Rattle.rbac_paths.specs.Paths.{ArePaths, ArePathsOf, IsSooner, GoesTo, IsBef
 use Rattle.rbac_paths.specs.Aims.{ToTakeOver}
 use Rattle.rbac_paths.specs.Reasons.{IsReason}
 use Rattle.rbac_paths.specs.Told.{IsFirstTold}
-use Rattle.rbac_paths.specs.declared.steps.Step.{Step}
+use Rattle.rbac_steps.specs.declared.steps.Step.{Step}
 use Rattle.rbac_model.proofs.Firsts.{one_first}
 use Rattle.rbac_paths.proofs.OneReason.{one_reason}
 

@@ -5,7 +5,7 @@ use Rattle.rbac_model.specs.Lists.{IsAscendingBy}
 use Rattle.rbac_model.specs.Policies.{PolicyView}
 use Rattle.rbac_model.proofs.OneList.{one_list}
 use Rattle.rbac_paths.specs.Powers.{ArePowersIn, ArePowersOf, PowerView, power_place}
-use Rattle.rbac_paths.specs.declared.steps.Step.{Step}
+use Rattle.rbac_steps.specs.declared.steps.Step.{Step}
 
 -- a power of a step has a name: its who and where, as printed
 abbrev power_name : PowerView → List Text

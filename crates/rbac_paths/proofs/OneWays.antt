@@ -18,7 +18,7 @@ use Rattle.rbac_paths.specs.Paths.{GoesTo, IsBeforeOn, IsFewest, LeadsTo}
 use Rattle.rbac_paths.specs.Reasons.{IsReason, ReasonView}
 use Rattle.rbac_paths.specs.Told.{IsFirstTold}
 use Rattle.rbac_paths.specs.WaysTo.{AreWays, AreWaysTo, GoesBack, IsComeTo, IsOnward, IsPrincipal, IsWayOn, NextView, WayView}
-use Rattle.rbac_paths.specs.declared.steps.Step.{Step}
+use Rattle.rbac_steps.specs.declared.steps.Step.{Step}
 use Rattle.rbac_model.proofs.Firsts.{one_first}
 use Rattle.rbac_paths.proofs.OnePaths.{before_to, fewest_to, goes_back, goes_to, leads_back, one_count, told_less, told_name}
 use Rattle.rbac_paths.proofs.OneReason.{one_reason}

@@ -19,7 +19,7 @@ use Rattle.rbac_paths.specs.Principals.{IsOneWith}
 use Rattle.rbac_paths.specs.TakingOver.{TakesOver}
 use Rattle.rbac_paths.specs.Told.{HasItsRole}
 use Rattle.rbac_paths.specs.Tracing.{AreLinked, ArePathsAt, HasKeyAt, HasKeyOf, IsPathAt}
-use Rattle.rbac_paths.specs.declared.steps.Step.{Step}
+use Rattle.rbac_steps.specs.declared.steps.Step.{Step}
 use Rattle.rbac_paths.proofs.Closed.{HasOwnRole, cluster_role_bound, role_bound}
 use Rattle.rbac_paths.proofs.GraphWays.{IsGraphBy, among, at_low, before, fewest, leads, one_less, reached, stop_is, stop_there, within}
 

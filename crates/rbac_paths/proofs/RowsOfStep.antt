@@ -7,7 +7,7 @@ use Rattle.rbac_paths.specs.Rows.{AreOfStep}
 use Rattle.rbac_paths.specs.Steps.{StepRowView, table}
 use Rattle.rbac_paths.specs.Taking.{RowTakes}
 use Rattle.rbac_paths.specs.Told.{HoldingTakes, HoldingsTake}
-use Rattle.rbac_paths.specs.declared.steps.Step.{Step}
+use Rattle.rbac_steps.specs.declared.steps.Step.{Step}
 
 -- a holding takes over a node by the rows of a step exactly if it does by the table
 module _ (step : Step) (rows : List StepRowView) (of : AreOfStep step table rows) (y : NodeView) where

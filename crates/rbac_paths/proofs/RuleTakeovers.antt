@@ -12,7 +12,7 @@ use Rattle.rbac_model.specs.Policies.{GrantView, Held, InClusterRole, InRole, So
 use Rattle.rbac_model.specs.declared.places.GrantPlace.{GrantPlace}
 use Rattle.rbac_model.specs.declared.places.RolePlace.TheVariants.{RoleAt, ClusterRoleAt}
 use Rattle.rbac_paths.specs.Takeovers.{AreTakeoversOfEach, HaveTakeovers, TakeoversView}
-use Rattle.rbac_paths.specs.declared.steps.Step.{Step}
+use Rattle.rbac_steps.specs.declared.steps.Step.{Step}
 use Rattle.rbac_paths.proofs.GraphOf.{pushed}
 
 -- for each of the first `count` elements of ys, the element at its place has the property

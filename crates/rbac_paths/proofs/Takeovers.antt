@@ -11,7 +11,7 @@ use Rattle.rbac_paths.specs.Rows.{AreOfStep, MatchesRow}
 use Rattle.rbac_paths.specs.SharedWords.{LetsWord, StepTakesWord, TakesWord}
 use Rattle.rbac_paths.specs.Steps.{StepRowView, table}
 use Rattle.rbac_paths.specs.Takeovers.{AreTakeovers, HasTakeover, takeover_of}
-use Rattle.rbac_paths.specs.declared.steps.Step.{Step}
+use Rattle.rbac_steps.specs.declared.steps.Step.{Step}
 use Rattle.rbac_paths.specs.declared.takeover.Takeover.{Takeover}
 
 -- a rule has a takeover by the rows of a step exactly if it has it by the table

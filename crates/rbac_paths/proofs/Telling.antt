@@ -10,10 +10,11 @@ use Rattle.rbac_model.proofs.OwnWords.{any_from}
 use Rattle.rbac_model.specs.Holders.{IsKeyFor, HasKey}
 use Rattle.rbac_model.proofs.KeyNames.{key_names, naming_key}
 use Rattle.rbac_paths.specs.Powers.{GivesStep, PowerView}
-use Rattle.rbac_paths.specs.Steps.{AllowsIn, AllowsRow, CountsIn, StepRowView, asked_in, steps, table}
+use Rattle.rbac_paths.specs.Steps.{AllowsIn, AllowsRow, CountsIn, StepRowView, asked_in, table}
+use Rattle.rbac_steps.specs.Steps.{steps}
 use Rattle.rbac_paths.specs.Telling.{CanTake, AlsoHoldsIn, TellAll}
-use Rattle.rbac_paths.specs.declared.steps.Step.{Step}
-use Rattle.rbac_paths.specs.declared.steps.Step.TheVariants.{Impersonate, Token, Run, Exec, Secrets, Nodes, Bind, Escalate, Certificates, Webhooks}
+use Rattle.rbac_steps.specs.declared.steps.Step.{Step}
+use Rattle.rbac_steps.specs.declared.steps.Step.TheVariants.{Impersonate, Token, Run, Exec, Secrets, Nodes, Bind, Escalate, Certificates, Webhooks}
 use Rattle.rbac_paths.specs.declared.table.Counts.{Counts}
 use Rattle.rbac_paths.specs.declared.table.Counts.TheVariants as counted
 use Rattle.rbac_paths.proofs.AllSteps.{ArePowersTo, each_power}

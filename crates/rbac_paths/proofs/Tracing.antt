@@ -16,7 +16,7 @@ use Rattle.rbac_paths.specs.Nodes.{NodeView}
 use Rattle.rbac_paths.specs.Paths.{IsSooner, IsNearer, PathView}
 use Rattle.rbac_paths.specs.TakingOver.{TakesOver}
 use Rattle.rbac_paths.specs.Tracing.{AreLinked, AreToldAt, IsAt, IsPathAt, IsUnled}
-use Rattle.rbac_paths.specs.declared.steps.Step.{Step}
+use Rattle.rbac_steps.specs.declared.steps.Step.{Step}
 
 -- ---- places below a bound, one after another
 

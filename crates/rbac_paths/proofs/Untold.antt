@@ -12,8 +12,8 @@ use Rattle.rbac_paths.specs.Joints.{DecideOn, IsAboutNode, IsNobody}
 use Rattle.rbac_paths.specs.Nodes.{NodeView, Somebody, ClusterRoleIn, OwnRole, EverythingIn}
 use Rattle.rbac_paths.specs.TakingOver.{BindsNode, MayGoOn, HasAll, IsUntold, IsUntoldBy, TakesByStep, TakesOver, WritesRoles}
 use Rattle.rbac_paths.specs.Told.{HoldingsBind, HoldingsHaveAll, HoldingsTake, HoldingsTell, IsFirstTold, IsUntoldOf}
-use Rattle.rbac_paths.specs.declared.steps.Step.{Step}
-use Rattle.rbac_paths.specs.declared.steps.Step.TheVariants.{Bind}
+use Rattle.rbac_steps.specs.declared.steps.Step.{Step}
+use Rattle.rbac_steps.specs.declared.steps.Step.TheVariants.{Bind}
 use Rattle.rbac_paths.proofs.AllowedBy.{by_holdings, in_holdings}
 
 either : {A B C D : Type 0} → (A → C) → (B → D) → A ⊎ B → C ⊎ D

@@ -18,7 +18,7 @@ use Rattle.rbac_paths.specs.Told.{IsFirstTold}
 use Rattle.rbac_paths.specs.Tracing.{IsAt}
 use Rattle.rbac_paths.specs.TracingWays.{AllowAtEnds, AreLinkedOn, AreWaysAt, IsSomebody, IsToldAt}
 use Rattle.rbac_paths.specs.WaysTo.{AreWays, GoesBack, IsComeTo, IsOnward, IsPrincipal, IsWayOn, NextView, WayView}
-use Rattle.rbac_paths.specs.declared.steps.Step.{Step}
+use Rattle.rbac_steps.specs.declared.steps.Step.{Step}
 use Rattle.rbac_paths.proofs.GraphWays.{IsGraphBy, among, at_low, before, fewest, leads, one_less, one_or_none, one_place, reached, stop_is, stop_there, within}
 use Rattle.rbac_paths.proofs.PathsFound.{named}
 use Rattle.rbac_paths.proofs.Tracing.{is_here, matched, matched_none, matched_some}

@@ -16,7 +16,7 @@ use Rattle.rbac_paths.specs.TakingOver.{TakesOver}
 use Rattle.rbac_paths.specs.Told.{IsFirstTold}
 use Rattle.rbac_paths.specs.TracingWays.{AllowAtEnds, AreLinkedOn, IsOwnWay, IsToldAt, IsUntoldAt, IsWayAt}
 use Rattle.rbac_paths.specs.WaysTo.{IsShorter, NextView, WayView}
-use Rattle.rbac_paths.specs.declared.steps.Step.{Step}
+use Rattle.rbac_steps.specs.declared.steps.Step.{Step}
 use Rattle.rbac_paths.proofs.Tracing.{first_met, is_here}
 
 none_is : (o : Option Stop) → (IsSome o → ⊥) → o ≡ None

@@ -19,7 +19,7 @@ use Rattle.rbac_paths.specs.Rows.{AreOfStep, HasRowResource, MatchesRow}
 use Rattle.rbac_paths.specs.Steps.{StepRowView, table}
 use Rattle.rbac_paths.specs.Taking.{CanTakeOver, RowTakes, RuleTakes}
 use Rattle.rbac_paths.specs.Told.{HoldingTakes, HoldingsTake, grant_holding}
-use Rattle.rbac_paths.specs.declared.steps.Step.{Step}
+use Rattle.rbac_steps.specs.declared.steps.Step.{Step}
 use Rattle.rbac_paths.proofs.AllowedBy.{by_holdings, in_holdings}
 use Rattle.rbac_paths.proofs.Grants.{GrantTakes, by_grant, some_takes}
 

@@ -13,7 +13,7 @@ use Rattle.rbac_paths.specs.Steps.{table}
 use Rattle.rbac_paths.specs.Taking.{RowTakes, RuleTakes}
 use Rattle.rbac_paths.specs.TakingOver.{MayGoOn, TakesOver}
 use Rattle.rbac_paths.specs.Told.{HoldingTakes, HoldingsTake}
-use Rattle.rbac_paths.specs.declared.steps.Step.{Step}
+use Rattle.rbac_steps.specs.declared.steps.Step.{Step}
 use Rattle.rbac_paths.proofs.SharedWords.{row_shares}
 
 module _ (p : PolicyView) (x : NodeView) (hs : List HoldingView) (steps : List Step) (decide : DecideOn p steps x hs IsAnyNode) (who : Who) (had : List Text) (of : AreHadBy who had) where

@@ -10,7 +10,7 @@ use Rattle.rbac_paths.specs.Nodes.{NodeView, node_of}
 use Rattle.rbac_paths.specs.Taking.{CanTakeOver, RuleTakes}
 use Rattle.rbac_paths.specs.declared.aim.Aim.{Aim}
 use Rattle.rbac_paths.specs.declared.aim.Aim.TheVariants as of
-use Rattle.rbac_paths.specs.declared.steps.Step.{Step}
+use Rattle.rbac_steps.specs.declared.steps.Step.{Step}
 
 -- an aim: to take over a node by a step, or to allow a request (own)
 pub data AimView : Type 0 where

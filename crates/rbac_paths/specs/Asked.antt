@@ -12,7 +12,7 @@ use Rattle.rbac_paths.specs.Steps.{IsNameAsked, StepRowView, asked_in}
 use Rattle.rbac_paths.specs.Taking.{RowTakes}
 use Rattle.rbac_paths.specs.Told.{HoldingTakes}
 use Rattle.rbac_paths.specs.declared.table.Names.{Names}
-use Rattle.rbac_paths.specs.declared.steps.Step.{Step}
+use Rattle.rbac_steps.specs.declared.steps.Step.{Step}
 use Rattle.rbac_paths.specs.declared.taking.Asked.{Asked}
 
 -- the answer is the only namespace and name with the property, or nothing if none have it

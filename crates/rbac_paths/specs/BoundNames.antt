@@ -6,7 +6,7 @@ use Rattle.rbac_terms.specs.declared.matching.Rule.{Rule}
 use Rattle.rbac_model.specs.Policies.{Held}
 use Rattle.rbac_paths.specs.Rows.{MatchesRow}
 use Rattle.rbac_paths.specs.Steps.{table}
-use Rattle.rbac_paths.specs.declared.steps.Step.TheVariants.{Bind}
+use Rattle.rbac_steps.specs.declared.steps.Step.TheVariants.{Bind}
 
 -- the rule lets one bind roles, and this is one of its object names
 abbrev pub BindsNamed : Rule → Text → Type 0

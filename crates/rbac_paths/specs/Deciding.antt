@@ -12,7 +12,7 @@ use Rattle.rbac_paths.specs.Nodes.{NodeView, Somebody, ClusterRoleIn, OwnRole, E
 use Rattle.rbac_paths.specs.Rows.{MatchesRow}
 use Rattle.rbac_paths.specs.Steps.{table}
 use Rattle.rbac_paths.specs.Told.{HoldingTakes, grant_holding}
-use Rattle.rbac_paths.specs.declared.steps.Step.{Step}
+use Rattle.rbac_steps.specs.declared.steps.Step.{Step}
 
 -- the rule matches a row of the step
 unfoldable pub MatchesStep : Rule → Step → Type 0

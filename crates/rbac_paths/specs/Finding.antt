@@ -9,7 +9,7 @@ use Rattle.rbac_model.specs.Policies.{GrantView, IsOfBinding, PolicyView}
 use Rattle.rbac_model.specs.Holders.{HasKey}
 use Rattle.rbac_paths.specs.Powers.{GivesStep, IsPower, PowerView, power_place}
 use Rattle.rbac_paths.specs.Powers.{who_and_where}
-use Rattle.rbac_paths.specs.declared.steps.Step.{Step}
+use Rattle.rbac_steps.specs.declared.steps.Step.{Step}
 
 -- powers, each under its who and where, as printed
 abbrev pub Found : Type 0

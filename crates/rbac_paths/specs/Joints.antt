@@ -17,7 +17,7 @@ use Rattle.rbac_paths.specs.Taking.{CanTakeOver, scope_namespace}
 use Rattle.rbac_paths.specs.TakingOver.{TakesOver}
 use Rattle.rbac_paths.specs.Told.{HoldingsTake, grant_holding}
 use Rattle.rbac_paths.specs.Tracing.{IsAt}
-use Rattle.rbac_paths.specs.declared.steps.Step.{Step}
+use Rattle.rbac_steps.specs.declared.steps.Step.{Step}
 use Rattle.rbac_paths.specs.declared.table.Over.{Over}
 use Rattle.rbac_paths.specs.declared.table.Over.TheVariants as over
 

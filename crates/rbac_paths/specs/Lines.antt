@@ -4,7 +4,7 @@ use Rattle.rbac_terms.specs.Text.{Text}
 use Rattle.rbac_text.specs.Row.{field_and_tab}
 use Rattle.rbac_text.specs.Why.{why_text}
 use Rattle.rbac_paths.specs.Powers.{PowerView, power_place}
-use Rattle.rbac_paths.specs.Steps.{step_word}
+use Rattle.rbac_steps.specs.Steps.{step_word}
 
 -- the line of a power: the step, who, where, and the first grant and subject that give it, joined
 -- by tabs

@@ -9,7 +9,7 @@ use Rattle.rbac_paths.specs.NodeLists.{node_text, who_or_what}
 use Rattle.rbac_paths.specs.Nodes.{NodeView}
 use Rattle.rbac_paths.specs.Paths.{PathView}
 use Rattle.rbac_paths.specs.Reasons.{ReasonView, ByGrant, ByRule, ByAll}
-use Rattle.rbac_paths.specs.Steps.{step_word}
+use Rattle.rbac_steps.specs.Steps.{step_word}
 
 -- the kind and the name of the role where a rule is written
 abbrev pub source_name : Source → Text

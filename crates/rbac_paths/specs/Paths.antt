@@ -13,7 +13,7 @@ use Rattle.rbac_paths.specs.Principals.{IsOneWith}
 use Rattle.rbac_paths.specs.Reasons.{IsReason, ReasonView}
 use Rattle.rbac_paths.specs.TakingOver.{TakesOver}
 use Rattle.rbac_paths.specs.Told.{IsFirstTold}
-use Rattle.rbac_paths.specs.declared.steps.Step.{Step}
+use Rattle.rbac_steps.specs.declared.steps.Step.{Step}
 
 -- n steps lead from a start to y
 abbrev pub LeadsTo : (NodeView → NodeView → Type 0) → (NodeView → Type 0) → ℕ → NodeView → Type 0

@@ -10,8 +10,9 @@ use Rattle.rbac_model.specs.Policies.{GrantView, PolicyView}
 use Rattle.rbac_model.specs.Holders.{HasKey}
 use Rattle.rbac_text.specs.Choice.{choice_and_tab}
 use Rattle.rbac_text.specs.Row.{field_and_tab}
-use Rattle.rbac_paths.specs.Steps.{AllowsIn, steps, table}
-use Rattle.rbac_paths.specs.declared.steps.Step.{Step}
+use Rattle.rbac_paths.specs.Steps.{AllowsIn, table}
+use Rattle.rbac_steps.specs.Steps.{steps}
+use Rattle.rbac_steps.specs.declared.steps.Step.{Step}
 
 -- a step that whoever has the key can take, by a grant and a subject of the grant's binding; in the
 -- namespace of this binding, or in the whole cluster if the binding has none

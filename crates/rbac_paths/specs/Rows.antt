@@ -4,7 +4,7 @@ use Rattle.rbac_terms.specs.Text.{Text}
 use Rattle.rbac_terms.specs.Matching.{NameMatches, ResourceWordMatches, VerbOk, WordMatches}
 use Rattle.rbac_terms.specs.declared.matching.Rule.{Rule}
 use Rattle.rbac_paths.specs.Steps.{CanBeNamed, StepRowView}
-use Rattle.rbac_paths.specs.declared.steps.Step.{Step}
+use Rattle.rbac_steps.specs.declared.steps.Step.{Step}
 use Rattle.rbac_paths.specs.declared.table.Names.{Names}
 use Rattle.rbac_paths.specs.declared.table.Row.{Row}
 

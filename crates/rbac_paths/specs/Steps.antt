@@ -4,34 +4,16 @@ use Rattle.rbac_terms.specs.Text.{Text}
 use Rattle.rbac_terms.specs.Targets.{Resource}
 use Rattle.rbac_terms.specs.Matching.{RuleAllows}
 use Rattle.rbac_terms.specs.declared.matching.Rule.{Rule}
-use Rattle.rbac_paths.specs.declared.steps.Step.{Step}
-use Rattle.rbac_paths.specs.declared.steps.Step.TheVariants.{Impersonate, Token, Run, Exec}
-use Rattle.rbac_paths.specs.declared.steps.Step.TheVariants.{Secrets, Nodes, Bind, Escalate}
-use Rattle.rbac_paths.specs.declared.steps.Step.TheVariants.{Certificates, Webhooks}
+use Rattle.rbac_steps.specs.declared.steps.Step.{Step}
+use Rattle.rbac_steps.specs.declared.steps.Step.TheVariants.{Impersonate, Token, Run, Exec}
+use Rattle.rbac_steps.specs.declared.steps.Step.TheVariants.{Secrets, Nodes, Bind, Escalate}
+use Rattle.rbac_steps.specs.declared.steps.Step.TheVariants.{Certificates, Webhooks}
 use Rattle.rbac_paths.specs.declared.table.Names.{Names}
 use Rattle.rbac_paths.specs.declared.table.Names.TheVariants as names
 use Rattle.rbac_paths.specs.declared.table.Counts.{Counts}
 use Rattle.rbac_paths.specs.declared.table.Counts.TheVariants as counted
 use Rattle.rbac_paths.specs.declared.table.Over.{Over}
 use Rattle.rbac_paths.specs.declared.table.Over.TheVariants as over
-
--- all steps, in order of the table
-abbrev pub steps : List Step
-steps = Impersonate ∷ Token ∷ Run ∷ Exec ∷ Secrets ∷ Nodes ∷ Bind ∷ Escalate ∷ Certificates
-    ∷ Webhooks ∷ []
-
--- the word for a step (own)
-unfoldable pub step_word : Step → Text
-step_word Impersonate = codes "impersonate"
-step_word Token = codes "token"
-step_word Run = codes "run"
-step_word Exec = codes "exec"
-step_word Secrets = codes "secrets"
-step_word Nodes = codes "nodes"
-step_word Bind = codes "bind"
-step_word Escalate = codes "escalate"
-step_word Certificates = codes "certificates"
-step_word Webhooks = codes "webhooks"
 
 -- a row of the table: its requests are each of its verbs on each of its resources in its API group;
 -- it also says which object names they have, whether they count only in the whole cluster or also

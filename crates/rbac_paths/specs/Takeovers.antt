@@ -6,7 +6,7 @@ use Rattle.rbac_model.specs.declared.places.RolePlace.{RolePlace}
 use Rattle.rbac_model.specs.declared.places.RolePlace.TheVariants.{RoleAt, ClusterRoleAt}
 use Rattle.rbac_paths.specs.Rows.{MatchesRow}
 use Rattle.rbac_paths.specs.Steps.{StepRowView, table}
-use Rattle.rbac_paths.specs.declared.steps.Step.{Step}
+use Rattle.rbac_steps.specs.declared.steps.Step.{Step}
 use Rattle.rbac_paths.specs.declared.takeover.Takeover.{Takeover}
 
 -- what the row takes over, where its requests count, and which object names they have

@@ -4,8 +4,8 @@ use Rattle.rbac_terms.specs.Text.{Text}
 use Rattle.rbac_model.specs.Policies.{PolicyView}
 use Rattle.rbac_paths.specs.Nodes.{NodeView, Somebody, ClusterRoleIn, OwnRole, EverythingIn}
 use Rattle.rbac_paths.specs.Taking.{CanTakeOver}
-use Rattle.rbac_paths.specs.declared.steps.Step.{Step}
-use Rattle.rbac_paths.specs.declared.steps.Step.TheVariants.{Bind, Escalate}
+use Rattle.rbac_steps.specs.declared.steps.Step.{Step}
+use Rattle.rbac_steps.specs.declared.steps.Step.TheVariants.{Bind, Escalate}
 
 -- the step writes bindings, or rules of roles
 abbrev pub WritesRoles : Step → Type 0

@@ -7,7 +7,7 @@ use Rattle.rbac_model.specs.Policies.{Allows, PolicyView}
 use Rattle.rbac_model.specs.Holders.{IsKeyFor}
 use Rattle.rbac_paths.specs.Powers.{PowerView}
 use Rattle.rbac_paths.specs.Steps.{CanBeNamed, StepRowView, asked_in, table}
-use Rattle.rbac_paths.specs.declared.steps.Step.{Step}
+use Rattle.rbac_steps.specs.declared.steps.Step.{Step}
 
 -- a request of the step is allowed to the principal in that namespace, or in the whole cluster if
 -- that is the empty namespace

@@ -11,8 +11,8 @@ use Rattle.rbac_paths.specs.Having.{HoldingView}
 use Rattle.rbac_paths.specs.Nodes.{NodeView, Somebody, ClusterRoleIn, OwnRole, EverythingIn}
 use Rattle.rbac_paths.specs.Taking.{RuleTakes}
 use Rattle.rbac_paths.specs.TakingOver.{IsUntoldBy, TakesByStep, WritesRoles}
-use Rattle.rbac_paths.specs.declared.steps.Step.{Step}
-use Rattle.rbac_paths.specs.declared.steps.Step.TheVariants.{Bind}
+use Rattle.rbac_steps.specs.declared.steps.Step.{Step}
+use Rattle.rbac_steps.specs.declared.steps.Step.TheVariants.{Bind}
 
 -- if the node is a cluster role, this role is held
 abbrev pub HasItsRole : Held → NodeView → Type 0

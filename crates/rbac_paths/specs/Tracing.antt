@@ -11,7 +11,7 @@ use Rattle.rbac_paths.specs.Paths.{IsNearer, PathView}
 use Rattle.rbac_paths.specs.Reasons.{IsReason}
 use Rattle.rbac_paths.specs.TakingOver.{TakesOver}
 use Rattle.rbac_paths.specs.Told.{IsFirstTold}
-use Rattle.rbac_paths.specs.declared.steps.Step.{Step}
+use Rattle.rbac_steps.specs.declared.steps.Step.{Step}
 
 -- the node is a user or a group with the key of this principal
 abbrev pub HasKeyOf : Who → NodeView → Type 0

@@ -11,7 +11,7 @@ use Rattle.rbac_paths.specs.Reasons.{IsReason}
 use Rattle.rbac_paths.specs.Told.{IsFirstTold}
 use Rattle.rbac_paths.specs.Tracing.{AreToldAt, IsAt, TakesAt}
 use Rattle.rbac_paths.specs.WaysTo.{IsShorter, WayView}
-use Rattle.rbac_paths.specs.declared.steps.Step.{Step}
+use Rattle.rbac_steps.specs.declared.steps.Step.{Step}
 
 -- the node is a user or a group
 abbrev pub IsSomebody : NodeView → Type 0

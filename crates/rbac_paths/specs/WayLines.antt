@@ -4,7 +4,7 @@ use Rattle.rbac_terms.specs.Text.{Text}
 use Rattle.rbac_text.specs.Row.{field_and_tab, tab}
 use Rattle.rbac_paths.specs.NodeLists.{node_text}
 use Rattle.rbac_paths.specs.PathLines.{reason_line}
-use Rattle.rbac_paths.specs.Steps.{step_word}
+use Rattle.rbac_steps.specs.Steps.{step_word}
 use Rattle.rbac_paths.specs.WaysTo.{NextView, WayView}
 
 -- the node to which the first step leads, and the step; three empty fields if there is no step

@@ -8,7 +8,7 @@ use Rattle.rbac_paths.specs.Nodes.{NodeView, Somebody}
 use Rattle.rbac_paths.specs.Paths.{IsSooner, GoesTo, IsBeforeOn, IsFewest, LeadsTo}
 use Rattle.rbac_paths.specs.Reasons.{IsReason, ReasonView}
 use Rattle.rbac_paths.specs.Told.{IsFirstTold}
-use Rattle.rbac_paths.specs.declared.steps.Step.{Step}
+use Rattle.rbac_steps.specs.declared.steps.Step.{Step}
 
 -- the node is one of these users and groups
 abbrev pub IsPrincipal : List Who → NodeView → Type 0

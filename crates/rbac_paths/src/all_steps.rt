@@ -8,8 +8,8 @@ ghost use Rattle.rbac_paths.specs.Telling.{TellAll};
 
 use crate::finding::found_of;
 use crate::power::{Power, Powers};
-use crate::steps::Step;
 use rbac_model::Policy;
+use rbac_steps::Step;
 use std::alloc::{AllocError, Global};
 
 /// All powers that a policy gives, in order of the table of steps, and then of who and where, byte

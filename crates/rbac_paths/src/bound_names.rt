@@ -9,11 +9,11 @@ ghost use Rattle.rbac_paths.specs.BoundNames.{AreBoundNames, BindsNamed};
 ghost use Rattle.rbac_paths.specs.Rows.{AreOfStep, MatchesRow};
 ghost use Rattle.rbac_paths.specs.SharedWords.{AddsWhere};
 ghost use Rattle.rbac_paths.specs.Steps.{table};
-ghost use Rattle.rbac_paths.specs.declared.steps.Step.TheVariants.{Bind};
+ghost use Rattle.rbac_steps.specs.declared.steps.Step.TheVariants.{Bind};
 
 use crate::rows::{WordRow, rows_of};
-use crate::steps::Step;
 use rbac_model::Policy;
+use rbac_steps::Step;
 use rbac_terms::{Rule, Word};
 use std::alloc::{AllocError, Global};
 

@@ -11,7 +11,7 @@ ghost use Rattle.rbac_paths.specs.Joints.{DecideOn, DecidesOf};
 ghost use Rattle.rbac_paths.specs.Nodes.{node_of};
 ghost use Rattle.rbac_paths.specs.Takeovers.{HaveTakeovers};
 ghost use Rattle.rbac_paths.specs.Told.{HasItsRole};
-ghost use Rattle.rbac_paths.specs.declared.steps.Step.{Step};
+ghost use Rattle.rbac_steps.specs.declared.steps.Step.{Step};
 
 use crate::graph::NodeGraph;
 use crate::holding::{Holding, holdings_of};

@@ -8,12 +8,12 @@ ghost use Rattle.rbac_paths.specs.Finding.{AddsPowers, FindsPowers, GivesNone, I
 ghost use Rattle.rbac_paths.specs.Powers.{who_and_where};
 ghost use Rattle.rbac_paths.specs.Rows.{AreOfStep};
 ghost use Rattle.rbac_paths.specs.Steps.{AllowsIn, table};
-ghost use Rattle.rbac_paths.specs.declared.steps.Step.{Step};
+ghost use Rattle.rbac_steps.specs.declared.steps.Step.{Step};
 
 use crate::power::Power;
 use crate::rows::{WordRow, rows_of};
-use crate::steps::Step;
 use rbac_model::{Grant, Policy};
+use rbac_steps::Step;
 use rbac_terms::{Binding, Rule, Word, subject_key};
 use rbac_text::{put_choice_and_tab, put_field_and_tab};
 use std::alloc::{AllocError, Global};

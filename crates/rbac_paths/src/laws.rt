@@ -9,7 +9,7 @@ ghost use Rattle.rbac_paths.specs.Paths.{ArePathsOf, PathView};
 ghost use Rattle.rbac_paths.specs.Powers.{ArePowers, PowerView};
 ghost use Rattle.rbac_paths.specs.Principals.{AreToldByKeys};
 ghost use Rattle.rbac_paths.specs.WaysTo.{AreWaysTo, WayView};
-ghost use Rattle.rbac_paths.specs.declared.steps.Step.{Step};
+ghost use Rattle.rbac_steps.specs.declared.steps.Step.{Step};
 ghost use Rattle.rbac_terms.specs.Principals.{Who};
 
 /// A policy determines the list of its powers: two lists of all its powers are the same, in the

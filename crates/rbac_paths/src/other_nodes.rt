@@ -16,8 +16,8 @@ ghost use Rattle.rbac_paths.specs.Takeovers.{HaveTakeovers};
 ghost use Rattle.rbac_paths.specs.Taking.{scope_namespace};
 ghost use Rattle.rbac_paths.specs.TakingOver.{TakesOver};
 ghost use Rattle.rbac_paths.specs.Tracing.{IsAt};
-ghost use Rattle.rbac_paths.specs.declared.steps.Step.{Step};
-ghost use Rattle.rbac_paths.specs.declared.steps.Step.TheVariants.{Bind, Escalate};
+ghost use Rattle.rbac_steps.specs.declared.steps.Step.{Step};
+ghost use Rattle.rbac_steps.specs.declared.steps.Step.TheVariants.{Bind, Escalate};
 
 use crate::holding::Holding;
 use crate::node::Node;

@@ -2,8 +2,8 @@
 
 ghost use Rattle.std.specs.Prelude.{◌≡◌};
 
-use crate::steps::Step;
 use rbac_model::Grant;
+use rbac_steps::Step;
 use rbac_terms::Word;
 use std::alloc::Global;
 use std::marker::Model;

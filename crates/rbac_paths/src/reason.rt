@@ -11,7 +11,7 @@ ghost use Rattle.rbac_paths.specs.Deciding.{AreNumbersOf, AreTakingNumbers, IsLe
 ghost use Rattle.rbac_paths.specs.Nodes.{ClusterRoleIn, NodeView, OwnRole, Somebody, node_of};
 ghost use Rattle.rbac_paths.specs.Reasons.{AnswersFirstIn, AnswersFirstServing, IsReason, reason_view};
 ghost use Rattle.rbac_paths.specs.Told.{HasItsRole};
-ghost use Rattle.rbac_paths.specs.declared.steps.Step.{Step};
+ghost use Rattle.rbac_steps.specs.declared.steps.Step.{Step};
 ghost use Rattle.rbac_terms.specs.declared.matching.Rule.{Rule};
 
 use crate::aim::Aim;

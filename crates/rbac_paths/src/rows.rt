@@ -18,12 +18,12 @@ ghost use Rattle.rbac_paths.specs.Taking.{IsOver, RowTakes};
 
 use crate::holding::Holding;
 use crate::node::Node;
-use crate::steps::Step;
 use crate::table::{Counts, Names, Over, Row, TABLE};
 use crate::takeover::{Takeover, is_over_nobody};
 use crate::taking::{
     Asked, for_account, for_cluster_role, for_everything, for_group, for_role, for_user,
 };
+use rbac_steps::Step;
 use rbac_terms::{Rule, Word, Words, group_matches, resource_matches, verb_matches};
 use std::alloc::{AllocError, Global};
 use std::marker::Model;

@@ -1,6 +1,6 @@
 //! The table of steps: the requests of each step, and what they take over.
 
-use crate::steps::Step;
+use rbac_steps::Step;
 
 /// Which object names the requests of a row have.
 #[derive(Clone, Copy, PartialEq, Eq, Drop)]

@@ -13,12 +13,12 @@ ghost use Rattle.rbac_paths.specs.Taking.{RowTakes};
 ghost use Rattle.rbac_paths.specs.TakingOver.{MayGoOn, TakesOver, WritesRoles};
 ghost use Rattle.rbac_paths.specs.Told.{HoldingTakes, HoldingsBind, HoldingsHaveAll, HoldingsTake};
 ghost use Rattle.rbac_paths.specs.Told.{HoldingsTell, IsFirstTold, IsUntoldOf};
-ghost use Rattle.rbac_paths.specs.declared.steps.Step.TheVariants.{Bind};
+ghost use Rattle.rbac_steps.specs.declared.steps.Step.TheVariants.{Bind};
 
 use crate::holding::Holding;
 use crate::node::Node;
 use crate::rows::{AskedRow, WordRow, rows_of};
-use crate::steps::Step;
+use rbac_steps::Step;
 use rbac_terms::{ClusterRole, Rule, Word};
 use std::alloc::{AllocError, Global};
 use std::marker::Model;
@@ -33,7 +33,7 @@ pub(crate) struct StepRows {
 impl Model for StepRows {
     ghost use Rattle.rbac_paths.specs.Rows.{AreOfStep};
     ghost use Rattle.rbac_paths.specs.Steps.{table};
-    ghost use Rattle.rbac_paths.specs.declared.steps.Step.{Step};
+    ghost use Rattle.rbac_steps.specs.declared.steps.Step.{Step};
 
     ghost Value = { Step };
 

@@ -12,7 +12,7 @@ ghost use Rattle.rbac_paths.specs.SharedWords.{LetsName, LetsWord, StepTakesWord
 ghost use Rattle.rbac_paths.specs.SharedWords.{chosen_word};
 ghost use Rattle.rbac_paths.specs.Takeovers.{HaveTakeovers};
 ghost use Rattle.rbac_paths.specs.declared.table.Counts.TheVariants as counted;
-ghost use Rattle.rbac_paths.specs.declared.steps.Step.{Step};
+ghost use Rattle.rbac_steps.specs.declared.steps.Step.{Step};
 ghost use Rattle.rbac_paths.specs.declared.table.Over.TheVariants as over;
 
 use crate::holding::Holding;

@@ -3,8 +3,8 @@ use Rattle.std.specs.Prelude.{◌≡◌, Bool, List, Option, Some, None, All, An
 use Rattle.std.specs.List.{list_any}
 use Rattle.std.specs.Str.{bytes_eq}
 use Rattle.rbac_terms.specs.Text.{Text}
-use Rattle.rbac_paths.specs.Steps.{steps, step_word}
-use Rattle.rbac_paths.specs.declared.steps.Step.{Step}
+use Rattle.rbac_steps.specs.Steps.{steps, step_word}
+use Rattle.rbac_steps.specs.declared.steps.Step.{Step}
 use Rattle.rbac_question.specs.Lines.{parts_between, comma}
 
 -- the text is exactly the word of a step of the table

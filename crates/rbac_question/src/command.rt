@@ -1,7 +1,7 @@
 //! Commands: what to do, with which options, and with which files.
 
 use crate::asked::Asked;
-use rbac_paths::Step;
+use rbac_steps::Step;
 use rbac_terms::{Principal, Scope, Word};
 use rbac_token::Mark;
 

@@ -16,7 +16,7 @@ pub use command::{Action, Change, Command, HolderOptions, MatrixOptions, Questio
 pub use fault::QuestionFault;
 pub use line::{CanILine, DiffLine, LintLine, MatrixLine, QuestionLine, RulesLine};
 pub use paths_line::PathsLine;
-pub use rbac_paths::Step;
+pub use rbac_steps::Step;
 pub use rbac_terms::Scope;
 pub use who::WhoLine;
 pub use who_can_line::WhoCanLine;

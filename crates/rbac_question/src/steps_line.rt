@@ -1,12 +1,12 @@
 //! What the text after `--steps` means.
 
 ghost use Rattle.std.specs.Prelude.{◌≡◌, ◌↔◌, All, Any, IfOk, IsTrue, filter, option_map};
-ghost use Rattle.rbac_paths.specs.Steps.{step_word};
+ghost use Rattle.rbac_steps.specs.Steps.{step_word};
 ghost use Rattle.rbac_question.specs.Lines.{comma, parts_between};
 ghost use Rattle.rbac_question.specs.StepsLines.{AreStepWords, IsStepWord};
 ghost use Rattle.rbac_question.specs.StepsLines.{names_step, steps_meant};
 
-use rbac_paths::Step;
+use rbac_steps::Step;
 use std::alloc::{AllocError, Global};
 
 // Whether a text is the word of one of these steps.

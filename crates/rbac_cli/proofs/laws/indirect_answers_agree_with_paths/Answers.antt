@@ -1,7 +1,7 @@
 use Rattle.std.proofs.Common.{List, subst, sym}
 use Rattle.std.specs.Prelude.{vec_items}
 use Rattle.rbac_paths.specs.WaysTo.{AreWaysTo}
-use Rattle.rbac_paths.specs.declared.steps.Step.{Step}
+use Rattle.rbac_steps.specs.declared.steps.Step.{Step}
 use Rattle.rbac_cli.specs.Meant.{access_meant}
 use Rattle.rbac_cli.proofs.ToldByKeys.{told_by_keys}
 use Rattle.rbac_cli.proofs.laws.indirect_answers_agree_with_paths.Goals as goal

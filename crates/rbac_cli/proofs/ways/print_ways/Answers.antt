@@ -2,7 +2,7 @@ use Rattle.std.proofs.Common.{List, ap, refl, subst, sym, ◌∙◌}
 use Rattle.rbac_catalogue.specs.Catalogue.{CatalogueView}
 use Rattle.rbac_paths.specs.Access.{AccessView}
 use Rattle.rbac_paths.specs.WaysTo.{AreWaysTo}
-use Rattle.rbac_paths.specs.declared.steps.Step.{Step}
+use Rattle.rbac_steps.specs.declared.steps.Step.{Step}
 use Rattle.rbac_question.specs.declared.command.Action.TheVariants.{WaysTo}
 use Rattle.rbac_cli.specs.Meant.{IsMeant}
 use Rattle.rbac_cli.specs.Out.{ways_text}

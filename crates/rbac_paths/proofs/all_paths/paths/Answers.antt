@@ -10,7 +10,7 @@ use Rattle.rbac_paths.specs.Paths.{IsGraphOf}
 use Rattle.rbac_paths.specs.Principals.{IsOneWith}
 use Rattle.rbac_paths.specs.Tracing.{AreLinked, ArePathsAt}
 use Rattle.rbac_paths.specs.declared.node.Node.{Node}
-use Rattle.rbac_paths.specs.declared.steps.Step.{Step}
+use Rattle.rbac_steps.specs.declared.steps.Step.{Step}
 use Rattle.rbac_paths.proofs.PathsFound.{are_paths, held, in_order, linked}
 use Rattle.rbac_paths.proofs.all_paths.paths.Goals as goal
 

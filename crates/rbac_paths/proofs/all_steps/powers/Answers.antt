@@ -1,8 +1,8 @@
 use Rattle.std.proofs.Common.{◌++◌, ◌∷◌, [], List, get_or, take, inl, inr, refl, sym, subst, arith}
 use Rattle.std.proofs.lemmas.List.{take_all, take_more}
 use Rattle.rbac_paths.specs.Powers.{PowerView}
-use Rattle.rbac_paths.specs.Steps.{steps}
-use Rattle.rbac_paths.specs.declared.steps.Step.{Step}
+use Rattle.rbac_steps.specs.Steps.{steps}
+use Rattle.rbac_steps.specs.declared.steps.Step.{Step}
 use Rattle.rbac_paths.proofs.AllSteps.{ArePowersTo, to_next, to_none}
 use Rattle.rbac_paths.proofs.Telling.{tell_all}
 use Rattle.rbac_paths.proofs.all_steps.powers.Goals as goal

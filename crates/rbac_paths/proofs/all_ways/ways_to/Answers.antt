@@ -11,7 +11,7 @@ use Rattle.rbac_paths.specs.Nodes.{node_of}
 use Rattle.rbac_paths.specs.Paths.{IsGraphOf}
 use Rattle.rbac_paths.specs.TracingWays.{AreLinkedOn, AreWaysAt}
 use Rattle.rbac_paths.specs.declared.node.Node.{Node}
-use Rattle.rbac_paths.specs.declared.steps.Step.{Step}
+use Rattle.rbac_steps.specs.declared.steps.Step.{Step}
 use Rattle.rbac_paths.proofs.PathsFound.{held, in_order}
 use Rattle.rbac_paths.proofs.WaysFound.{are_ways, ends_allow, linked_on}
 use Rattle.rbac_paths.proofs.all_ways.ways_to.Goals as goal

@@ -8,7 +8,7 @@ use Rattle.rbac_paths.specs.BoundNames.{BindsNamed}
 use Rattle.rbac_paths.specs.Rows.{AreOfStep}
 use Rattle.rbac_paths.specs.SharedWords.{AddsWhere}
 use Rattle.rbac_paths.specs.Steps.{StepRowView, table}
-use Rattle.rbac_paths.specs.declared.steps.Step.TheVariants.{Bind}
+use Rattle.rbac_steps.specs.declared.steps.Step.TheVariants.{Bind}
 use Rattle.rbac_paths.proofs.BoundNames.{AddsOfClusterRoles, AddsOfRoles, names_are}
 use Rattle.rbac_paths.proofs.WordsAdded.{adds_each, adds_first, adds_more}
 use Rattle.rbac_paths.proofs.bound_names.bound_names.Goals as goal

@@ -5,7 +5,7 @@ use Rattle.std.proofs.lemmas.List.{get_or_default, length-replicate}
 use Rattle.rbac_terms.specs.declared.granting.Binding.{Binding}
 use Rattle.rbac_paths.specs.Deciding.{IsTakingAt}
 use Rattle.rbac_paths.specs.Takeovers.{AreTakeovers, HaveTakeovers}
-use Rattle.rbac_paths.specs.declared.steps.Step.{Step}
+use Rattle.rbac_steps.specs.declared.steps.Step.{Step}
 use Rattle.rbac_paths.specs.declared.takeover.Takeover.{Takeover}
 use Rattle.rbac_paths.proofs.ByBinding.{list_there, listed_all, listed_more, listed_same, none_listed}
 use Rattle.rbac_paths.proofs.RuleTakeovers.{rule_of_grant}

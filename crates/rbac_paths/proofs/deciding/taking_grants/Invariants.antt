@@ -1,7 +1,7 @@
 use Rattle.std.proofs.Common.{◌≡◌, List, length}
 use Rattle.rbac_paths.specs.Deciding.{IsTakingAt}
 use Rattle.rbac_paths.specs.Takeovers.{HaveTakeovers}
-use Rattle.rbac_paths.specs.declared.steps.Step.{Step}
+use Rattle.rbac_steps.specs.declared.steps.Step.{Step}
 use Rattle.rbac_paths.proofs.ByBinding.{AreListedBelow}
 use Rattle.rbac_paths.proofs.deciding.taking_grants.Given as goal
 

@@ -1,7 +1,7 @@
 use Rattle.std.proofs.Common.{◌≡◌, ◌↔◌, ◌<◌, [], ℕ, List, Contains, get_or, length}
 use Rattle.rbac_paths.specs.Joints.{IsOverOthersAt}
 use Rattle.rbac_paths.specs.Takeovers.{HaveTakeovers}
-use Rattle.rbac_paths.specs.declared.steps.Step.{Step}
+use Rattle.rbac_steps.specs.declared.steps.Step.{Step}
 use Rattle.rbac_paths.proofs.graph.few_of_bindings.Given as goal
 
 abbrev pub invariant-loop-numbers : goal.invariant-loop-numbers

@@ -2,7 +2,7 @@ use Rattle.std.proofs.Common.{◌≡◌, ◌↔◌, ◌<◌, [], ℕ, List, Any,
 use Rattle.rbac_terms.specs.Text.{Text}
 use Rattle.rbac_paths.specs.SharedWords.{GrantTakesWord}
 use Rattle.rbac_paths.specs.Takeovers.{HaveTakeovers}
-use Rattle.rbac_paths.specs.declared.steps.Step.{Step}
+use Rattle.rbac_steps.specs.declared.steps.Step.{Step}
 use Rattle.rbac_paths.proofs.graph.words_of_bindings.Given as goal
 
 abbrev pub invariant-loop-numbers : goal.invariant-loop-numbers

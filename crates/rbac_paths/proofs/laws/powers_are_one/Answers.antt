@@ -1,4 +1,4 @@
-use Rattle.rbac_paths.specs.Steps.{steps}
+use Rattle.rbac_steps.specs.Steps.{steps}
 use Rattle.rbac_paths.proofs.OnePowers.{one_powers}
 use Rattle.rbac_paths.proofs.laws.powers_are_one.Goals as goal
 

@@ -3,7 +3,7 @@ use Rattle.rbac_terms.proofs.Cases.{on_ok}
 use Rattle.rbac_terms.specs.Text.{Text}
 use Rattle.rbac_text.specs.Choice.{choice_and_tab}
 use Rattle.rbac_text.specs.Row.{field_and_tab}
-use Rattle.rbac_paths.specs.Steps.{step_word}
+use Rattle.rbac_steps.specs.Steps.{step_word}
 use Rattle.rbac_paths.proofs.line.put_power.Goals as goal
 
 -- four texts that are added one after another

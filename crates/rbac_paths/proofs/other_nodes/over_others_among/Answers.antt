@@ -3,7 +3,7 @@ use Rattle.std.proofs.lemmas.List.{take_all, take_more}
 use Rattle.rbac_paths.specs.Joints.{IsOverNobody, IsOverOthersAt}
 use Rattle.rbac_paths.specs.Takeovers.{AreTakeovers, HaveTakeovers}
 use Rattle.rbac_paths.specs.Told.{grant_holding}
-use Rattle.rbac_paths.specs.declared.steps.Step.{Step}
+use Rattle.rbac_steps.specs.declared.steps.Step.{Step}
 use Rattle.rbac_paths.specs.declared.takeover.Takeover.{Takeover}
 use Rattle.rbac_paths.proofs.Others.{kept_more, kept_same, over_at}
 use Rattle.rbac_paths.proofs.RuleTakeovers.{rule_of_grant}

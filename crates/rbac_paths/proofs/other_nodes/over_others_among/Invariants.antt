@@ -1,7 +1,7 @@
 use Rattle.std.proofs.Common.{◌↔◌, ℕ, List, Contains, take}
 use Rattle.rbac_paths.specs.Joints.{IsOverOthersAt}
 use Rattle.rbac_paths.specs.Takeovers.{HaveTakeovers}
-use Rattle.rbac_paths.specs.declared.steps.Step.{Step}
+use Rattle.rbac_steps.specs.declared.steps.Step.{Step}
 use Rattle.rbac_paths.proofs.other_nodes.over_others_among.Given as goal
 
 abbrev pub invariant-loop-no : goal.invariant-loop-no

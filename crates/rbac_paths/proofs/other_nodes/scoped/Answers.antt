@@ -3,7 +3,7 @@ use Rattle.std.proofs.lemmas.Result.{IfOk-weaker}
 use Rattle.rbac_paths.specs.Having.{HoldingView}
 use Rattle.rbac_paths.specs.Joints.{AreOverOthers, AreScoped}
 use Rattle.rbac_paths.specs.Nodes.{EverythingIn}
-use Rattle.rbac_paths.specs.declared.steps.Step.{Step}
+use Rattle.rbac_steps.specs.declared.steps.Step.{Step}
 use Rattle.rbac_paths.proofs.InScopes.{scoped_few, scoped_none}
 use Rattle.rbac_paths.proofs.Others.{about_node}
 use Rattle.rbac_paths.proofs.Untold.{has_all}

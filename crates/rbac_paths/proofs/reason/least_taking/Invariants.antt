@@ -2,7 +2,7 @@ use Rattle.std.proofs.Common.{take}
 use Rattle.rbac_paths.specs.Asked.{AreAskedBy}
 use Rattle.rbac_paths.specs.Deciding.{IsLeastTaking}
 use Rattle.rbac_paths.specs.Nodes.{NodeView}
-use Rattle.rbac_paths.specs.declared.steps.Step.{Step}
+use Rattle.rbac_steps.specs.declared.steps.Step.{Step}
 use Rattle.rbac_paths.proofs.reason.least_taking.Given as goal
 
 abbrev pub invariant-loop-no : goal.invariant-loop-no

@@ -1,7 +1,7 @@
 use Rattle.std.proofs.Common.{[], List, take}
 use Rattle.rbac_paths.specs.SharedWords.{GrantTakesWord}
 use Rattle.rbac_paths.specs.Takeovers.{HaveTakeovers}
-use Rattle.rbac_paths.specs.declared.steps.Step.{Step}
+use Rattle.rbac_steps.specs.declared.steps.Step.{Step}
 use Rattle.rbac_paths.proofs.WordsAdded.{AddsOf}
 use Rattle.rbac_paths.proofs.words.words_of_grants.Given as goal
 

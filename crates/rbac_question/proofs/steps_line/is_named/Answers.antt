@@ -2,7 +2,7 @@ use Rattle.std.proofs.Common.{lit<, rules, tests}
 use Rattle.std.specs.Str.{bytes_eq}
 use Rattle.std.proofs.lemmas.Iterator.Search.{any_from_yields_List}
 use Rattle.std.proofs.lemmas.Iterator.Splits.{YieldsList-from_str_split}
-use Rattle.rbac_paths.specs.Steps.{step_word}
+use Rattle.rbac_steps.specs.Steps.{step_word}
 use Rattle.rbac_question.specs.Lines.{comma}
 use Rattle.rbac_question.proofs.steps_line.is_named.Goals as goal
 

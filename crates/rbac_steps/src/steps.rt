@@ -1,7 +1,7 @@
 //! The steps by which one node takes over another.
 
 ghost use Rattle.std.specs.Prelude.{◌≡◌};
-ghost use Rattle.rbac_paths.specs.Steps.{step_word};
+ghost use Rattle.rbac_steps.specs.Steps.{step_word};
 
 /// A step by which a user or a group acts as somebody else, or gets more than its own rules allow
 /// (Role Based Access Control Good Practices). The table of steps lists the requests of each step
