@@ -57,8 +57,7 @@ LINT = (
          'Add the namespace of the service account to the subject.',
          'Subject {place} of {object}, the service account {detail}, has no namespace. So it names nobody.'),
     Rule('L6', 'stale-aggregate', 'warning', 'An aggregated role has stale rules',
-         'The rules written in the aggregated role differ from the rules that it gathers from other roles. A cluster grants the '
-         'written rules.',
+         'The rules written in the aggregated role differ from the rules that it gathers from other roles. A cluster grants the written rules.',
          'For a cluster, export again. If the finding remains, check that the controller manager runs, and that no aggregated roles '
          'select each other. For manifests, leave the rules of the aggregated role empty.',
          'The rules written in {object} differ from the rules that it gathers from other roles.'),
@@ -132,8 +131,7 @@ def log_of(asking: Asking, rules: tuple[Rule, ...], results: Iterator[Part]) -> 
     return json.dumps({'$schema': SCHEMA, 'version': '2.1.0', 'runs': [run]}, ensure_ascii=False) + '\n'
 
 
-def result_of(rules: tuple[Rule, ...], at: int, fields: dict[str, str], mark: list[str], location: Part,
-              beside: Part | None = None) -> Part:
+def result_of(rules: tuple[Rule, ...], at: int, fields: dict[str, str], mark: list[str], location: Part, beside: Part | None = None) -> Part:
     """A result of a rule; `mark` tells it from others of the rule."""
     more = {'relatedLocations': [beside]} if beside else {}
     return {'ruleId': rules[at].id, 'ruleIndex': at, 'level': rules[at].level,
