@@ -6,17 +6,20 @@ Types are checked where mypy is installed. Unit tests are those of tests/unit. T
 import ast
 import glob
 import os
+import resource
 import shutil
 import subprocess
 import sys
+import tempfile
 import unittest
 
-from common import TOP, checked, skipped, tested
+from common import PROGRAM, TOP, checked, skipped, tested
 
 PLUGIN = os.path.join(TOP, 'plugin')
 PACKAGE = os.path.join(PLUGIN, 'rbacaudit_kubectl')
 ENTRIES = 'kubectl-rbacaudit', 'kubectl_complete-rbacaudit', 'rbacaudit-page', 'rbacaudit-show'
 MOST_OF_FUNCTION, MOST_OF_FILE = 40, 500
+MOST_OF_START = 0.15    # seconds of a processor
 
 
 def types():
@@ -71,9 +74,38 @@ def text():
     for name in ENTRIES:
         with open(os.path.join(PLUGIN, name), encoding='utf-8') as file:
             checked('%s is a few lines' % name, len(file.readlines()) < 30)
-    others = sorted(set(os.listdir(PLUGIN)) - {*ENTRIES, 'rbacaudit_kubectl'})
+    # (what Python and mypy keep there begins with these)
+    others = sorted(name for name in {*os.listdir(PLUGIN)} - {*ENTRIES, 'rbacaudit_kubectl'} if not name.startswith(('.', '__')))
     checked('plugin/ has the package and its entries alone', not others, repr(others))
 
 
+def seconds_of(words, **how):
+    """The least processor time that a command takes in some runs."""
+    def spent():
+        used = resource.getrusage(resource.RUSAGE_CHILDREN)
+        return used.ru_utime + used.ru_stime
+
+    times = []
+    for _ in range(5):
+        before = spent()
+        subprocess.run(words, stdin=subprocess.DEVNULL, stdout=subprocess.PIPE, check=True, timeout=60, **how)
+        times.append(spent() - before)
+    return min(times)
+
+
+def start():
+    """A question to an export costs little beside rbacaudit's own time."""
+    with tempfile.TemporaryDirectory() as room:
+        for name, source in (('cluster.json', 'shop.json'), ('api-shop.json', 'shop-api.json')):
+            shutil.copy(os.path.join(TOP, 'examples', source), os.path.join(room, name))
+        with open(os.path.join(room, 'namespaced.json'), 'w', encoding='utf-8') as file:
+            file.write('{"apiVersion": "v1", "kind": "List"}')
+        question = 'can-i --as system:serviceaccount:shop:ci -n shop update deployments.apps'.split()
+        environment = dict(os.environ, PATH=os.path.dirname(PROGRAM) + os.pathsep + os.environ['PATH'])
+        of_plugin = seconds_of([os.path.join(PLUGIN, 'kubectl-rbacaudit'), *question, '--export', room], env=environment)
+        of_program = seconds_of([PROGRAM, *question, *(os.path.join(room, name) for name in sorted(os.listdir(room)))])
+        checked('a question starts soon', of_plugin - of_program <= MOST_OF_START, '%.3f s beside %.3f s' % (of_plugin, of_program))
+
+
 if __name__ == '__main__':
-    sys.exit(tested(types, units, text))
+    sys.exit(tested(types, units, text, start))

@@ -231,6 +231,30 @@ def without_kubectl(it):
                   'install it (https://kubernetes.io/docs/tasks/tools)\n', environment={**it.environment(), 'PATH': it.bin})
 
 
+def spent(call):
+    """The processor time that a call of programs takes."""
+    before = os.times()
+    call()
+    after = os.times()
+    return after.children_user + after.children_system - before.children_user - before.children_system
+
+
+def speed():
+    """Many files take at most twice the processor time that kubectl itself takes on them, and twice as many twice as long."""
+    if not shutil.which('kubectl'):
+        skipped('kubectl', 'how long many manifests take')
+        return
+    with room(SHELLS[0]) as it:
+        os.remove(os.path.join(it.bin, 'kubectl'))
+        text = 'apiVersion: %s\nkind: Role\nmetadata: {name: r%%d, namespace: shop, labels: {app: web}}\nrules:\n- {apiGroups: [""], resources: [pods], verbs: [get]}\n' % V1
+        put(it, {'m/a/%d.yaml' % number: text % number for number in range(2000)})
+        shutil.copytree(os.path.join(it.work, 'm', 'a'), os.path.join(it.work, 'm', 'b'))
+        patch = ['kubectl', 'patch', '--local', '--type=merge', '-p', '{}', '-o', 'json', '-f', 'm/a', '-f', 'm/b']
+        itself = spent(lambda: subprocess.run(patch, cwd=it.work, env={**os.environ, 'KUBECONFIG': os.devnull}, stdout=subprocess.DEVNULL, check=True, timeout=300))
+        half, all_ = (spent(lambda path=path: it.run('read', path, timeout=300)) for path in ('m/a', 'm'))
+        it.checked('4,000 files', all_ < 2 * itself and all_ < 2.5 * half, 'seconds: %.2f, of kubectl itself %.2f, of half of them %.2f' % (all_, itself, half))
+
+
 # ---- what is answered
 
 @with_manifests
@@ -450,4 +474,4 @@ def first_screen(it):
     shutil.rmtree(os.path.join(it.work, 'main'))
 
 
-CHECKS = [paths, from_yaml, refusals, without_kubectl, hidden, taken_away, states, linted, recipes, first_screen]
+CHECKS = [paths, from_yaml, refusals, without_kubectl, speed, hidden, taken_away, states, linted, recipes, first_screen]

@@ -16,9 +16,11 @@ from .question import Question
 SILENT = re.compile(r'[ \t]*(#.*)?\r?$|%')
 YAML = re.compile(r'(?!\s*(error|warning))((---|[ \t]*-)(\s|$)|[ \t]*[a-z][a-z0-9_./-]*:(\s|$))', re.I)
 VERSIONS = {'List': 'v1', 'Namespace': 'v1', 'ServiceAccount': 'v1', 'NamespaceList': 'v1', 'ServiceAccountList': 'v1',
-            'Universe': 'rbacaudit/v1', **{kind + more: '%sv1 or %sv1beta1' % (RBAC, RBAC) for kind in ROLES + BINDINGS for more in ('', 'List')}}
+            'Universe': 'rbacaudit/v1', **dict.fromkeys((kind + more for kind in ROLES + BINDINGS for more in ('', 'List')),
+                                                        '%sv1 or %sv1beta1' % (RBAC, RBAC))}
 AT_MOST = 'a file may have at most 67,108,864 bytes (64 MiB): '
 APART = '%s and ask rbacaudit about all %s, without this plugin'
+GRANTS = 'rbacaudit takes at most 1,000,000 grants%s: pairs of a binding and a rule of its role%s'
 WHO = 'WHO is u:NAME for a user, or g:NAME for a group: '
 
 
@@ -58,7 +60,8 @@ def of_version(path: str, item: int) -> str:
     if not version and wanted:
         return '%s has no apiVersion%s' % (what, wanted)
     is_read = version in (RBAC + 'v1', RBAC + 'v1beta1') or not version.startswith(RBAC)
-    return '' if is_read else 'the apiVersion of %s is %s: of this API group, rbacaudit reads v1 and v1beta1' % (what, told(version))
+    fault = 'the apiVersion of %s is %s: of this API group, rbacaudit reads v1 and v1beta1'
+    return '' if is_read else fault % (what, told(version))
 
 
 def of_length(asking: Asking, path: str) -> str:
@@ -77,8 +80,8 @@ def of_text(path: str) -> str:
     if YAML.match(next((line for line in lines if not SILENT.match(line)), '')):
         return '%s looks like YAML, and rbacaudit reads JSON: kubectl rbacaudit read %s makes JSON of it' % (path, path)
     if has_several(text.lstrip()):
-        return ('%s has several JSON documents, one behind the other: put their objects into one List, or each document into a file '
-                'of its own, as jq -c . FILE | split -l 1 - part- does' % path)
+        return ('%s has several JSON documents, one behind the other: put their objects into one List, or each document into a '
+                'file of its own, as jq -c . FILE | split -l 1 - part- does' % path)
     return ''
 
 
@@ -103,14 +106,14 @@ def of_path(path: str) -> str:
 
 
 def advise_on_grants(asking: Asking) -> None:
-    """Says what grants are; and if an export of one namespace has all that a question is about, and so maybe fewer of them, that
-    there is such an export."""
+    """Says what grants are; and if an export of one namespace has all that a question is about, and so maybe fewer of them,
+    that there is such an export."""
     question, smaller = asking.question, ''
-    is_of_one = question.asked_in and question.command in ('can-i', 'who-can', 'rules') and not question.indirect and not question.anywhere
-    if is_of_one and not (asking.export and asking.export.only):
+    is_of_one = question.command in ('can-i', 'who-can', 'rules') and not question.indirect and not question.anywhere
+    if is_of_one and question.asked_in and not (asking.export and asking.export.only):
         smaller = '; for this question, export the namespace {0} alone: kubectl rbacaudit export -n {0} DIR'.format(question.asked_in)
     each = ' on each side' if question.command == 'diff' else ''
-    asking.session.report('rbacaudit takes at most 1,000,000 grants%s: pairs of a binding and a rule of its role%s' % (each, smaller))
+    asking.session.report(GRANTS % (each, smaller))
 
 
 # ---- words that are refused

@@ -38,18 +38,17 @@ def check_sides(options: Options) -> None:
     two states of manifests, which are a change of an export where one is given."""
     options.check_end()
     paths = [path for path in (options.with_, options.without, options.before, options.after) if path]
-    if not options.exports and not paths:
-        raise Refused('diff needs --export DIR or --with PATH, or --from PATH and --to PATH; kubectl rbacaudit diff --help says more')
-    if bool(options.before) != bool(options.after):
-        raise Refused('--from and --to go together: the manifests before the change, and those after it')
-    if options.before and len(paths) > 2:
-        raise Refused('--from and --to are the whole change: give neither --with nor --without beside them')
-    if len(options.exports) > 1 and paths:
-        raise Refused('diff compares two exports, or one with a change: --with goes with one --export')
+    for fault, is_so in (
+            ('diff needs --export DIR or --with PATH, or --from PATH and --to PATH; kubectl rbacaudit diff --help says more',
+             not options.exports and not paths),
+            ('--from and --to go together: the manifests before the change, and those after it', bool(options.before) != bool(options.after)),
+            ('--from and --to are the whole change: give neither --with nor --without beside them', options.before and len(paths) > 2),
+            ('diff compares two exports, or one with a change: --with goes with one --export', len(options.exports) > 1 and paths),
+            ("-n is the namespace of a change's objects that have none, so it needs --with PATH, --without PATH, or --from PATH and "
+             '--to PATH', options.namespace and not paths)):
+        if is_so:
+            raise Refused(fault)
     check_inputs(paths)
-    if options.namespace and not paths:
-        raise Refused("-n is the namespace of a change's objects that have none, so it needs --with PATH, --without PATH, or --from PATH "
-                      'and --to PATH')
     check_namespace(options.namespace)
 
 
@@ -72,8 +71,8 @@ def compare_states(asking: Asking) -> int:
     found = (asking.session.capture(['rbacaudit', 'lint', '--only=L1', *both, last]) for last in both)
     missing = first_three(row[4] for done in found for row in rows_of(done.out))
     if missing:
-        asking.session.report('neither side has these roles, so bindings to them grant nothing here: %s; --export DIR compares with the '
-                              'roles of a cluster' % missing)
+        asking.session.report('neither side has these roles, so bindings to them grant nothing here: %s; --export DIR compares with '
+                              'the roles of a cluster' % missing)
     return compare(asking, ['--before', both[0], '--after', both[1]], *sides)
 
 

@@ -5,6 +5,7 @@ from __future__ import annotations
 import json
 import os
 import re
+import select
 from collections.abc import Iterable, Iterator
 from dataclasses import dataclass, field
 
@@ -79,6 +80,20 @@ def say_kubectl(session: Session, lines: Iterable[str]) -> None:
 def without_log(lines: Iterable[str]) -> Iterator[str]:
     """A call that got what it asked for also logs each API group that doesn't answer; that group's own call reports it."""
     return (line for line in lines if not LOG.match(line))
+
+
+def lines_said(child: Child, number: int) -> Iterator[str]:
+    """The lines of a child's standard error as they come: until it ends, since what it has begun, such as a browser, may keep that open."""
+    rest = b''
+    while True:
+        is_there = bool(select.select([number], [], [], 0.1)[0])
+        data = os.read(number, 1 << 16) if is_there else b''
+        *lines, rest = (rest + data).split(b'\n')
+        yield from map(text_of, lines)
+        if not data and (is_there or child.poll() is not None):
+            break
+    if rest:
+        yield text_of(rest)
 
 
 def version_name(version: str, used: list[str]) -> str:
@@ -176,7 +191,7 @@ class Reader:
         """Waits for a call; what it said is kept, or passed on at once where it may ask who signs in."""
         assert call.child is not None
         if call.child.stderr is not None:
-            say_kubectl(self.session, (text_of(line).rstrip('\n') for line in call.child.stderr))
+            say_kubectl(self.session, lines_said(call.child, call.child.stderr.fileno()))
         call.status, self._signed_in = self.session.end(call.child), True
         with open(self._path(call) + '.said', 'rb') as file:
             said = text_of(file.read()).removesuffix('\n')

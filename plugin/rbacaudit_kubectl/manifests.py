@@ -8,6 +8,7 @@ from __future__ import annotations
 
 import json
 import os
+import re
 from collections.abc import Iterator
 from dataclasses import dataclass, field
 from typing import Any, Dict
@@ -25,6 +26,8 @@ ROLES, BINDINGS = ('Role', 'ClusterRole'), ('RoleBinding', 'ClusterRoleBinding')
 NAMESPACED = ('Role', 'RoleBinding', 'ServiceAccount')
 PATCH = ('kubectl', 'patch', '--local', '--type=merge', '-p', '{}', '-o', 'json')
 MOST_FILES, SIDE_BY_SIDE = 1000, 4   # in a call, and calls that go on at once
+# What a file with one object surely has, and what one with several may have: another document, a list, a key that hides, UTF-16.
+HAS_ONE, MAY_HAVE_MORE = re.compile(r'^kind:', re.M), re.compile(r'---|items|[\\!\0]|\A\s*\{')
 
 
 @dataclass
@@ -76,10 +79,11 @@ def role_of(binding: Item) -> str:
 
 @dataclass
 class Call:
-    """A call of kubectl for a path. Of several files, a mark stands behind each one's objects."""
+    """A call of kubectl for a path. A mark stands behind the objects of each file that may have more than one, or none."""
     path: str
     files: list[str]
     words: list[str]
+    marked: set[str] = field(default_factory=set)
 
 
 def as_value(path: str) -> str:
@@ -106,7 +110,15 @@ def calls_for(path: str, mark: str) -> Iterator[Call]:
     else:
         files = files_in(path)
         for some in (files[at:at + MOST_FILES] for at in range(0, len(files), MOST_FILES)):
-            yield Call(path, some, [word for file in some for word in ('-f', as_value(file), '-f', as_value(mark))])
+            marked = {file for file in some if not has_one(file)}
+            words = [word for file in some for word in ('-f', as_value(file), *(['-f', as_value(mark)] if file in marked else []))]
+            yield Call(path, some, words, marked)
+
+
+def has_one(path: str) -> bool:
+    """Whether a file of YAML surely has one object, if kubectl can read it: so it needs no mark, which costs kubectl as much as a file."""
+    text = read_text(path)
+    return bool(HAS_ONE.search(text)) and not MAY_HAVE_MORE.search(text)
 
 
 def files_in(folder: str) -> list[str]:
@@ -177,6 +189,7 @@ def read_objects(session: Session, paths: list[str]) -> Iterator[tuple[str, str,
                 file = next(files, '')
             else:
                 yield file, text, item
+                file = file if len(call.files) == 1 or file in call.marked else next(files, '')
     if unread:
         raise Refused("kubectl can't read %s, so nothing is answered" % name_path(unread))
 

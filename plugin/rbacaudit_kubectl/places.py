@@ -33,21 +33,14 @@ def address_of(path: str, home: str) -> str:
     return quote(os.fsencode(path[len(below):])) if path.startswith(below) else 'file://' + quote(os.fsencode(path))
 
 
-class Lines:
-    """The lines of objects in files, of which each is read once."""
-
-    def __init__(self) -> None:
-        self._read: dict[str, dict[str, int]] = {}
-
-    def line_of(self, path: str, key: str) -> int:
-        """The line with the name of an object, or 1 where nobody can tell."""
-        if path not in self._read:
-            self._read[path] = dict(names_in(path))
-        lines = self._read[path]
-        kind, _, name = key.partition('/')
-        # (an object may have got its namespace from -n)
-        bare = '%s/default/%s' % (kind, name.partition('/')[2]) if kind in NAMESPACED else key
-        return lines.get(key, lines.get(bare, 1))
+def line_of(read: dict[str, dict[str, int]], path: str, key: str) -> int:
+    """The line with the name of an object in a file, or 1 where nobody can tell. The names of files that were read are kept."""
+    if path not in read:
+        read[path] = dict(names_in(path))
+    kind, _, name = key.partition('/')
+    # (an object may have got its namespace from -n)
+    bare = '%s/default/%s' % (kind, name.partition('/')[2]) if kind in NAMESPACED else key
+    return read[path].get(key, read[path].get(bare, 1))
 
 
 def names_in(path: str) -> Iterator[tuple[str, int]]:

@@ -1,4 +1,4 @@
-"""-o sarif: what lint and diff list as SARIF 2.1.0, which code hosts show beside a change. docs/FORMATS.md says what stands where."""
+"""-o sarif: what lint and diff list as SARIF 2.1.0, which code hosts show beside a change (docs/FORMATS.md)."""
 
 from __future__ import annotations
 
@@ -13,7 +13,7 @@ from .answer import Asking
 from .documents import read_document
 from .escapes import escaped
 from .manifests import Item, Manifests, is_held, key_of_item, role_of
-from .places import Lines, address_of, home_folder, source_of
+from .places import address_of, home_folder, line_of, source_of
 from .stale import rows_of
 
 Part = Dict[str, Any]   # of the SARIF
@@ -37,8 +37,8 @@ class Rule:
 LINT = (
     Rule('L1', 'dangling-role', 'warning', 'A binding refers to a role that does not exist',
          'No role has this kind, namespace and name. Until somebody creates it, the binding grants nothing.',
-         'Check that all files were read. If only manifests were read, the role may exist in the cluster. '
-         'Otherwise delete the binding, or correct its roleRef.',
+         'Check that all files were read. If only manifests were read, the role may exist in the cluster. Otherwise delete the '
+         'binding, or correct its roleRef.',
          '{object} refers to {detail}, which does not exist. So the binding grants nothing.'),
     Rule('L2', 'unused-role', 'note', 'A role is unused',
          'No binding refers to the role, or to an aggregated cluster role that includes its rules.',
@@ -47,21 +47,19 @@ LINT = (
          'Another rule of the same role allows everything that this rule allows.', 'Delete this rule.',
          'Rule {place} of {object} is redundant: rule {detail} allows everything that rule {place} allows.'),
     Rule('L4', 'escalation', 'error', 'A rule allows privilege escalation',
-         'The rule allows the verb bind or escalate on roles or cluster roles. With bind, users can bind roles with '
-         'permissions that they do not have. With escalate, they can write such roles.',
-         'List who has the permission: kubectl rbacaudit who-can -n NS VERB TYPE.rbac.authorization.k8s.io, where '
-         'VERB is bind or escalate, and TYPE is roles or clusterroles. Take it from everybody who is not an '
-         'administrator.', 'Rule {place} of {object} allows {detail}: whoever has this rule can {does} roles with '
-         'permissions that they do not have.'),
+         'The rule allows the verb bind or escalate on roles or cluster roles. With bind, users can bind roles with permissions that '
+         'they do not have. With escalate, they can write such roles.',
+         'List who has the permission: kubectl rbacaudit who-can -n NS VERB TYPE.rbac.authorization.k8s.io, where VERB is bind or '
+         'escalate, and TYPE is roles or clusterroles. Take it from everybody who is not an administrator.',
+         'Rule {place} of {object} allows {detail}: whoever has this rule can {does} roles with permissions that they do not have.'),
     Rule('L5', 'account-without-namespace', 'error', 'A ServiceAccount subject has no namespace',
-         'A ServiceAccount subject of a ClusterRoleBinding has no namespace. It names nobody, and a server refuses '
-         'such a binding.', 'Add the namespace of the service account to the subject.',
+         'A ServiceAccount subject of a ClusterRoleBinding has no namespace. It names nobody, and a server refuses such a binding.',
+         'Add the namespace of the service account to the subject.',
          'Subject {place} of {object}, the service account {detail}, has no namespace. So it names nobody.'),
     Rule('L6', 'stale-aggregate', 'warning', 'An aggregated role has stale rules',
-         'The rules written in the aggregated role differ from the rules that it gathers from other roles. A '
-         'cluster grants the written rules.',
-         'For a cluster, export again. If the finding remains, check that the controller manager runs, and that no '
-         'aggregated roles select each other. For manifests, leave the rules of the aggregated role empty.',
+         'The rules written in the aggregated role differ from the rules that it gathers from other roles. A cluster grants the written rules.',
+         'For a cluster, export again. If the finding remains, check that the controller manager runs, and that no aggregated roles '
+         'select each other. For manifests, leave the rules of the aggregated role empty.',
          'The rules written in {object} differ from the rules that it gathers from other roles.'),
     Rule('L7', 'replaced-object', 'warning', 'An object replaces another',
          'Several objects have the same kind, namespace and name. Only the last one counts.',
@@ -81,11 +79,12 @@ DIFF = (
 class Side:
     """The objects of a state, of which those of manifests may stand in files."""
 
-    def __init__(self, lines: Lines, exported: list[Item], *manifests: Manifests) -> None:
-        self.lines, self.home = lines, home_folder()
-        placed = [pair for some in manifests for pair in zip(some.items, some.origins)]
+    def __init__(self, exported: list[Item], *manifests: Manifests) -> None:
+        self.home = home_folder()
+        self.lines: dict[str, dict[str, int]] = {}
+        objects = [(item, '') for item in exported] + [pair for some in manifests for pair in zip(some.items, some.origins)]
         # (of several with one name, the last counts)
-        self.objects = {key_of_item(item): (item, origin) for item, origin in [*((item, '') for item in exported), *placed] if is_held(item)}
+        self.objects = {key_of_item(pair[0]): pair for pair in objects if is_held(pair[0])}
 
     def source(self, key: str) -> str:
         """The file in which an object stands, or '' if it is in none."""
@@ -108,7 +107,8 @@ class Side:
         address = {'uri': address_of(source, self.home)}
         if not address['uri'].startswith('file:'):
             address['uriBaseId'] = '%SRCROOT%'
-        return {'physicalLocation': {'artifactLocation': address, 'region': {'startLine': self.lines.line_of(source, key)}}, **logical}
+        region = {'startLine': line_of(self.lines, source, key)}
+        return {'physicalLocation': {'artifactLocation': address, 'region': region}, **logical}
 
 
 # ---- results
@@ -140,8 +140,8 @@ def result_of(rules: tuple[Rule, ...], at: int, fields: dict[str, str], mark: li
 
 
 def shown(name: str) -> str:
-    """A field as messages have it: what a reader can't see is escaped, and so are the brackets and braces of which SARIF makes links
-    and arguments. A name with a blank is quoted."""
+    """A field as messages have it: what a reader can't see is escaped, and so are the brackets and braces of which SARIF makes
+    links and arguments. A name with a blank is quoted."""
     name = escaped(name)
     for one in '[]{}':
         name = name.replace(one, '\\x%02x' % ord(one))
@@ -150,7 +150,7 @@ def shown(name: str) -> str:
 
 def of_lint(asking: Asking, findings: str) -> str:
     """The findings of lint as SARIF."""
-    side, numbers = Side(Lines(), [], *asking.manifests.values()), {rule.id: at for at, rule in enumerate(LINT)}
+    side, numbers = Side([], *asking.manifests.values()), {rule.id: at for at, rule in enumerate(LINT)}
 
     def finding_of(code: str, _: str, about: str, place: str, detail: str) -> Part:
         fields = {'object': shown(about), 'place': place, 'detail': shown(detail), 'does': 'bind' if detail == 'bind' else 'write',
@@ -167,14 +167,13 @@ def of_diff(asking: Asking, old: Manifests | None, new: Manifests | None, rows: 
     """The changes of diff as SARIF."""
     files = asking.files('cluster.json', 'namespaced.json') if old or new else []
     exported = [item for path in files for item in read_document(path)['items']]
-    lines = Lines()
-    sides = [Side(lines, exported, *([manifests] if manifests else [])) for manifests in (old, new)]
+    sides = [Side(exported, *([manifests] if manifests else [])) for manifests in (old, new)]
     return log_of(asking, DIFF, changes_of(sides, rows))
 
 
 def changes_of(sides: list[Side], rows: list[list[str]]) -> Iterator[Part]:
-    """The changes as results: a result has all that somebody gains, or loses, in one place through one binding. Gains come first, as
-    they matter more where some results are left out."""
+    """The changes as results: a result has all that somebody gains, or loses, in one place through one binding. Gains come first,
+    as they matter more where some results are left out."""
     for at, sign in enumerate('+-'):
         for (who, where), group in groupby((row for row in rows if row[0] == sign), key=lambda row: row[1:3]):
             by_binding: dict[str, list[list[str]]] = {}
@@ -199,9 +198,8 @@ def permission_of(row: list[str]) -> str:
 
 
 def locations_of(sides: list[Side], at: int, binding: str) -> tuple[Part, Part | None]:
-    """Where a change is shown, and what stands beside it: a binding and its role. The role comes first if the binding is the same on
-    both sides and the role is not, or if only the role is in a file. Both are objects of this side of the change, unless only the
-    other side has them in files."""
+    """Where a change is shown, and what stands beside it: a binding and its role. The role comes first if the binding is the same
+    on both sides and the role isn't, or if only the role is in a file. Both are of this side, unless only the other has files."""
     side = sides[at] if sides[at].has_in_file(binding) or not sides[1 - at].has_in_file(binding) else sides[1 - at]
     role = side.role(binding)
     if not side.source(role):

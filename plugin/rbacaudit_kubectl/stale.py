@@ -44,8 +44,7 @@ def remark_on_stale(asking: Asking, stale: str, line: list[str], files: list[str
     """Asks again as a cluster decides, by the rules that are written in aggregated roles, and says what it answers."""
     session, command = asking.session, asking.question.command
     if command == 'matrix':
-        session.report('stale aggregates (L6 of lint): %s; the cluster grants what is written in them, and this matrix has what they '
-                       'gather' % stale)
+        session.report('stale aggregates (L6 of lint): %s; the cluster grants what is written in them, and this matrix has what they gather' % stale)
         return
     # (no other object has the field, and a text that looks like it has a backslash before its last quote; of documents that
     # have an object, the last counts)

@@ -2,12 +2,14 @@
 
 import json
 import os
+import subprocess
 import tempfile
+import time
 import unittest
 
 from rbacaudit_kubectl.errors import Refused
 from rbacaudit_kubectl.export import gaps_of, look_at_about, old_files
-from rbacaudit_kubectl.kubectl import is_cut, say_kubectl, version_name
+from rbacaudit_kubectl.kubectl import is_cut, lines_said, say_kubectl, version_name
 from rbacaudit_kubectl.options import read_options
 from rbacaudit_kubectl.question import Question
 
@@ -38,6 +40,16 @@ class Kubectl(unittest.TestCase):
             it = Said()
             say_kubectl(it, lines)
             self.assertEqual(it.text, wanted)
+
+
+    def test_lines_as_they_come(self):
+        script = 'echo "error: a" >&2; sleep 30 & echo b >&2; printf "Warning: c" >&2'
+        child = subprocess.Popen(['sh', '-c', script], stderr=subprocess.PIPE)
+        began = time.monotonic()
+        self.assertEqual([*lines_said(child, child.stderr.fileno())], ['error: a', 'b', 'Warning: c'])
+        self.assertLess(time.monotonic() - began, 25)
+        child.stderr.close()
+        child.wait()
 
 
 class Exports(unittest.TestCase):

@@ -53,11 +53,21 @@ class Folder(unittest.TestCase):
 
     def test_calls(self):
         self.put(*('m/%04d.yaml' % number for number in range(1001)), 'm/a,"b".yaml')
+        with open(self.at('m/a,"b".yaml'), 'w', encoding='utf-8') as file:
+            file.write('kind: Role\n---\nkind: Role\n')
         calls = list(manifests.calls_for(self.at('m'), '/tmp/mark.json'))
-        self.assertEqual([len(call.files) for call in calls], [1000, 2])
-        self.assertEqual(calls[1].words[4:], ['-f', '"%s"' % self.at('m/a,""b"".yaml'), '-f', '/tmp/mark.json'])
+        self.assertEqual([(len(call.files), len(call.words), call.marked) for call in calls], [(1000, 2000, set()), (2, 6, {self.at('m/a,"b".yaml')})])
+        self.assertEqual(calls[1].words[2:], ['-f', '"%s"' % self.at('m/a,""b"".yaml'), '-f', '/tmp/mark.json'])
         self.put('m/Kustomization')
         self.assertEqual([call.words for call in manifests.calls_for(self.at('m'), 'mark')], [['-k', self.at('m')]])
+
+    def test_files_that_need_a_mark(self):
+        for text, is_one in (('kind: Role\n', True), ('# x\nmetadata: {name: x}\nkind: Role', True), ('# x\n', False), ('', False), (' kind: Role', False),
+                             ('kind: List\nitems: []', False), ('kind: Role\n---\nkind: Role', False), ('{\nkind: Role}\n', False), (' \n {\nkind: x}{}', False),
+                             ('kind: L\n"it\\u0065ms": []', False), ('kind: L\n!!binary aXRlbXM=: []', False), ('kind: x\n\0', False)):
+            with open(self.at('x.yaml'), 'w', encoding='utf-8') as file:
+                file.write(text)
+            self.assertEqual(manifests.has_one(self.at('x.yaml')), is_one, text)
 
 
 class Objects(unittest.TestCase):

@@ -56,8 +56,8 @@ class Lines(unittest.TestCase):
         path = os.path.join(self.folder.name, 'x.yaml')
         with open(path, 'w', encoding='utf-8', newline='') as file:
             file.write(text)
-        lines = places.Lines()
-        return {key: lines.line_of(path, key) for key in LINES}
+        read = {}
+        return {key: places.line_of(read, path, key) for key in LINES}
 
     @unittest.skipUnless(yaml, 'PyYAML')
     def test_lines(self):

@@ -4,7 +4,6 @@ import unittest
 
 from rbacaudit_kubectl import sarif
 from rbacaudit_kubectl.manifests import RBAC, Manifests
-from rbacaudit_kubectl.places import Lines
 
 ROLE = {'apiVersion': RBAC + 'v1', 'kind': 'ClusterRole', 'metadata': {'name': 'r'}}
 BINDING = {'apiVersion': RBAC + 'v1', 'kind': 'ClusterRoleBinding', 'metadata': {'name': 'b'}, 'roleRef': {'kind': 'ClusterRole', 'name': 'r'}}
@@ -14,7 +13,7 @@ FILE = __file__     # a file that is there
 def side(exported=(), **origins):
     """A state: what is exported, and role and binding of manifests, by the file of each."""
     pairs = [(item, origins[name]) for name, item in (('role', ROLE), ('binding', BINDING)) if name in origins]
-    return sarif.Side(Lines(), list(exported), Manifests([], [item for item, _ in pairs], [origin for _, origin in pairs]))
+    return sarif.Side(list(exported), Manifests([], [item for item, _ in pairs], [origin for _, origin in pairs]))
 
 
 def named(location):

@@ -1,9 +1,12 @@
 """Tables: how wide columns are, what is cut, and the words of rules."""
 
 import itertools
+import json
+import time
 import unittest
 
 from rbacaudit_kubectl.fields import SHAPES
+from rbacaudit_kubectl.show import Reader, names_of, objects_of
 from rbacaudit_kubectl.table import Table, columns_of, cut, narrowed
 
 [HOLDERS, WHY] = (shape for shape in SHAPES if shape.command == 'who-can')
@@ -42,6 +45,27 @@ class Tables(unittest.TestCase):
         rules = 'x\tx\tRole/s/r\t1\t1\t[get,list]\t[-]\t[pods]\t[]\t[]'
         self.assertEqual(table_of([row], WHY, rules).splitlines()[2], '    VERBS get,list  GROUPS -  RESOURCES pods')
         self.assertEqual(table_of([row], WHY, rules, screen=20).splitlines()[2:], ['    VERBS get,list', '      GROUPS -', '      RESOURCES pods'])
+
+
+class Shown(unittest.TestCase):
+    def test_long_names_in_time(self):
+        """100,000 unseen characters in less than a second, in each form."""
+        line = 'u:%s\tRoleBinding/a/b' % ('\u202e' * 100_000)
+        for form in (lambda: ''.join(objects_of(Reader().rows_of([line]))), lambda: table_of([line]), lambda: table_of([line], is_on_terminal=True, screen=80),
+                     lambda: ''.join(names_of(Reader().rows_of([line])))):
+            began = time.process_time()
+            form()
+            self.assertLess(time.process_time() - began, 1)
+
+    def test_objects(self):
+        rows = Reader().rows_of(['u:a\udcff"\\xe2\\x80\\xae\tRoleBinding/a/b'])
+        self.assertEqual([json.loads(text) for text in objects_of(rows)],
+                         [{'who': 'u:a\ufffd"\u202e', 'who_bytes': 'dTph/yLigK4=', 'binding': 'RoleBinding/a/b'}])
+
+    def test_where_reading_ends(self):
+        reader = Reader()
+        self.assertEqual(len([*reader.rows_of(['end', 'u:a\tRoleBinding/a/b'])]), 1)
+        self.assertTrue(reader.fault.startswith('standard input line 2: no line of matrix as before'))
 
 
 if __name__ == '__main__':
