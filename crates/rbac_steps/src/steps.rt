@@ -1,7 +1,7 @@
 //! The steps by which one node takes over another.
 
 ghost use Rattle.std.specs.Prelude.{◌≡◌};
-ghost use Rattle.rbac_steps.specs.Steps.{step_word};
+ghost use Rattle.rbac_steps.specs.Steps.{steps, step_word};
 
 /// A step by which a user or a group acts as somebody else, or gets more than its own rules allow
 /// (Role Based Access Control Good Practices). The table of steps lists the requests of each step
@@ -44,6 +44,13 @@ impl Step {
         Step::Certificates,
         Step::Webhooks,
     ];
+
+    /// All steps, in the order of the table (own).
+    pub fn all() -> &'static [Step]
+        ensures { result.now ≡ steps }
+    {
+        &Step::ALL
+    }
 
     /// The word for the step, as it is printed and given on a command line (own).
     #[tactic(auto, unfolding(crate::specs::Steps::step_word))]
