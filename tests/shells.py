@@ -24,7 +24,7 @@ from common import PROGRAM, TOP, checked, skipped, tested
 
 sys.dont_write_bytecode = True
 sys.path.append(os.path.join(TOP, 'tools'))
-from words import described, written  # noqa: E402
+from words import PLUGIN_MAN, described, written  # noqa: E402
 
 COMPLETIONS = os.path.join(TOP, 'completions')
 MAN = os.path.join(TOP, 'man', 'rbacaudit.1')
@@ -540,7 +540,8 @@ def help_printed(folder, change):
 
 def words_made(folder, change):
     """How `make words` ends in a copy of what it writes, with help as it would be after a change of each text, and what it says."""
-    shutil.copytree(os.path.join(TOP, 'tools'), os.path.join(folder, 'tools'), dirs_exist_ok=True, ignore=shutil.ignore_patterns('__pycache__'))
+    for part in ('tools', 'plugin/rbacaudit_kubectl'):
+        shutil.copytree(os.path.join(TOP, part), os.path.join(folder, part), dirs_exist_ok=True, ignore=shutil.ignore_patterns('__pycache__'))
     ended = subprocess.run([sys.executable, os.path.join(folder, 'tools', 'words.py'), help_printed(folder, change)],
                            stdout=subprocess.PIPE, stderr=subprocess.STDOUT, timeout=60)
     return ended.returncode, ended.stdout.decode()
@@ -560,7 +561,9 @@ def more_options():
     names = [name for name, _, _ in written()]
     with tempfile.TemporaryDirectory() as folder:
         copied(folder)
-        checked('make words: options more', words_made(folder, change) == (0, ''.join(name + '\n' for name in names)))
+        # (the plugin's options aren't of help)
+        said = ''.join(name + ('' if name != PLUGIN_MAN else ': as it was') + '\n' for name in names)
+        checked('make words: options more', words_made(folder, change) == (0, said))
         checked('make words: and once more', words_made(folder, change) == (0, ''.join(name + ': as it was\n' for name in names)))
         for shell in SHELLS:
             at_work(shell, OF_MORE, FILES_OF_MORE, os.path.join(folder, 'completions'))

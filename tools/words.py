@@ -15,6 +15,7 @@ import textwrap
 
 TOP = os.path.dirname(os.path.dirname(os.path.abspath(__file__)))
 PROGRAM = os.path.join(TOP, 'crates', 'rbacaudit', 'out', 'rbacaudit')
+MAN, PLUGIN_MAN = 'man/rbacaudit.1', 'man/kubectl-rbacaudit.1'
 sys.path.append(os.path.join(TOP, 'plugin'))
 from rbacaudit_kubectl import options as plugin  # noqa: E402
 
@@ -317,18 +318,18 @@ def kept(piece, tag, said):
     return re.sub(r'^Default: .*\n', lambda it: default[0] if default else it[0], piece, flags=re.M)
 
 
-def described(text, title, wanted):
+def described(text, title, wanted, page=MAN):
     """The man page with a paragraph for each of these in a section of it, which begins with this line: the one by hand, or by help."""
     found = re.search(r'^%s\n((?:(?!\.S[HS] ).*\n)+)' % re.escape(title), text, re.M)
     if not found:
-        refuse('the man page has no line %r: write one, and what is to be said below it' % title)
+        refuse('%s has no line %r: write one, and what is to be said below it' % (page, title))
     pieces = list(paragraphs(found[1]))
     if ''.join(piece for _, _, piece in pieces) != found[1]:
-        refuse('the man page has a .TP without a text below %r' % title)
+        refuse('%s has a .TP without a text below %r' % (page, title))
     by_hand = {about: piece for about, is_by_hand, piece in pieces if about and is_by_hand}
     for about in by_hand:
         if about not in wanted:
-            refuse("the man page describes %s below %r, and help doesn't: take it out" % (about, title))
+            refuse("%s describes %s below %r, and help doesn't: take it out" % (page, about, title))
     rest = [(place, piece) for place, (about, is_by_hand, piece) in enumerate(pieces) if is_by_hand and not about]
     # (they stand where the first of them is, or else before the first other paragraph that has a tag)
     first = [place for place, (about, is_by_hand, _) in enumerate(pieces) if about or not is_by_hand]
@@ -373,13 +374,12 @@ def plugin_paragraphs(text):
     """The man page of the plugin with all its options."""
     for title, options in OF_PLUGIN.items():
         text = described(text, title, {it.long: (spelled_in_man(it, it.spellings, ' '), sentences(
-            it.text[:1].upper() + it.text[1:], [it.value] * bool(it.value), False)) for it in options})
+            it.text[:1].upper() + it.text[1:], [it.value] * bool(it.value), False)) for it in options}, PLUGIN_MAN)
     return text
 
 
 # ---- the files
 
-MAN, PLUGIN_MAN = 'man/rbacaudit.1', 'man/kubectl-rbacaudit.1'
 PARTS = {
     'completions/rbacaudit.bash': {'tables': bash_tables},
     'completions/_rbacaudit': {'specs': zsh_specs, 'calls': zsh_calls},
