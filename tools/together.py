@@ -234,6 +234,6 @@ class Crate:
         return [it for it in edits if not self.is_known(it)]
 
     def is_known(self, edit):
-        """Whether it can be told which functions the edit changes."""
-        functions = edit.functions_in(self.texts)
-        return bool(functions) and edit.made_in(self.texts) is not None and all(self.named(it) for it in functions)
+        """Whether it can be told which functions the edit changes, and what the prover says of each by itself."""
+        functions = {self.named(it) for it in edit.functions_in(self.texts)}
+        return bool(functions) and edit.made_in(self.texts) is not None and not functions & {None, *self.in_cycles}
