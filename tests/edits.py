@@ -1,5 +1,5 @@
 """Every wrong body still fits the text that it edits, in must-fail/ and in wrong-bodies/ of each crate, and the gate tries one of
-each public function.
+each public function but those of NOT_YET.
 
 An edit is a file of lines `file: PATH`, `old: TEXT` and `new: TEXT`. Each old text stands in its file exactly once,
 after the pairs before it. Proves nothing: `rt ci` tries the edits of must-fail/, of which there are at most 40, since each is a check by
