@@ -20,7 +20,7 @@ _rbacaudit() {
     local -A lists=(
         [command]='can-i who-can rules matrix universe lint powers paths diff'
         [verb]='get list watch create update patch delete deletecollection use bind escalate impersonate'
-        [step]='impersonate token run exec secrets nodes bind escalate certificates webhooks'
+        [step]='impersonate token run exec secrets nodes bind escalate certificates webhooks apiservices bootstrap volumes namespaces'
     )
     case $command in
         can-i)

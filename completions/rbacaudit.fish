@@ -103,7 +103,7 @@ complete -c rbacaudit -n '__rbacaudit_lacks every who-can' -l every -d 'List eac
 complete -c rbacaudit -n '__rbacaudit_lacks why who-can' -l why -d 'After the binding, print why'
 complete -c rbacaudit -n '__rbacaudit_lacks indirect who-can' -l indirect -d 'List also who can take over a holder'
 complete -c rbacaudit -n '__rbacaudit_lacks steps who-can' -l steps -x -k \
-    -a 'impersonate token run exec secrets nodes bind escalate certificates webhooks' \
+    -a 'impersonate token run exec secrets nodes bind escalate certificates webhooks apiservices bootstrap volumes namespaces' \
     -d 'With --indirect, only these steps count (default: all of powers)'
 complete -c rbacaudit -n '__rbacaudit_lacks namespace rules' -s n -l namespace -x -d 'Namespace whose RoleBindings count (default: any)'
 complete -c rbacaudit -n '__rbacaudit_lacks all-namespaces rules' -s A -l all-namespaces -d 'Only what holds in all namespaces at once'
@@ -115,7 +115,7 @@ complete -c rbacaudit -n '__rbacaudit_lacks limit matrix' -l limit -x -d 'List a
 complete -c rbacaudit -n '__rbacaudit_lacks only lint' -l only -x -d 'List only findings of these codes (default: all)'
 complete -c rbacaudit -n '__rbacaudit_lacks skip-system lint' -l skip-system -d 'Leave out built-in objects'
 complete -c rbacaudit -n '__rbacaudit_lacks steps paths' -l steps -x -k \
-    -a 'impersonate token run exec secrets nodes bind escalate certificates webhooks' -d 'Only these steps count (default: all of powers)'
+    -a 'impersonate token run exec secrets nodes bind escalate certificates webhooks apiservices bootstrap volumes namespaces' -d 'Only these steps count (default: all of powers)'
 complete -c rbacaudit -n '__rbacaudit_lacks before diff' -l before -x -k -a '(__fish_complete_suffix .json)' \
     -d 'JSON of kubectl get -o json or --raw as it was before the change'
 complete -c rbacaudit -n '__rbacaudit_lacks after diff' -l after -x -k -a '(__fish_complete_suffix .json)' \

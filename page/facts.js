@@ -1,15 +1,20 @@
 // What follows from the rows: who has how much, and who has what is worth watching.
 
 // What to watch: the steps of `rbacaudit powers`, as pairs of verbs and types, some in the whole
-// cluster alone, since no server asks about them in a namespace. The last one has no pairs: it is
-// about all that the page lists.
+// cluster alone, since no server asks about them in a namespace, and some there and in one namespace.
+// The last one has no pairs: it is about all that the page lists.
 const WATCHED = PAGE.watched;
 const EVERYTHING = 1 << (WATCHED.length - 1);
 
+// Whether a pair counts in the whole cluster or in a namespace.
+function countsIn(where, isInCluster, namespace) {
+    return isInCluster || !where || where === namespace;
+}
+
 // Which categories a verb on a type belongs to, in the whole cluster or in a namespace, as bits.
-function bitsOf(verb, type, isInCluster) {
+function bitsOf(verb, type, isInCluster, namespace) {
     return places(WATCHED, ({pairs}) => pairs.some(([verbs, types, where]) =>
-        (isInCluster || !where) && verbs.includes(verb) && types.includes(type)));
+        countsIn(where, isInCluster, namespace) && verbs.includes(verb) && types.includes(type)));
 }
 
 // A category may have several pairs, and a verb of one goes with no type of another: so each pair
@@ -44,10 +49,11 @@ class Watch {
         const {who, verb} = this.rows.columns;
         const held = this.verbs[verb[row]] & this.typePairs(row);
         const isInCluster = namespace === EVERYWHERE.cluster;
+        const word = this.rows.words.namespace[namespace];
         let found = 0;
         for (let at = 0; held >> at; at++) {
             const {bit, where} = this.pairs[at];
-            found |= held >> at & 1 && (isInCluster || !where) ? bit : 0;
+            found |= held >> at & 1 && countsIn(where, isInCluster, word) ? bit : 0;
         }
         const isStar = this.stars[verb[row]] || this.rows.word(row, 'resource') === '*'
             || this.rows.word(row, 'group') === '*';
@@ -183,7 +189,7 @@ function withNamed(scope, principals, named) {
         const place = placeOf(binding);
         const held = it.watchedAt.get('-') | it.watchedAt.get(place);
         const isInCluster = scope.isAll && place === '-';
-        const bits = bitsOf(textOf(verb), typeOf(group, resource), isInCluster) & ~held;
+        const bits = bitsOf(textOf(verb), typeOf(group, resource), isInCluster, place) & ~held;
         if (bits && isNamedIn(scope, place, group, resource)) {
             it.named.push({bits, place, verb, group, resource, binding});
             it.onlyNamed |= bits;

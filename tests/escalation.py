@@ -16,9 +16,11 @@ from meaning import (account, binding_text, field, groups_of, is_live, is_named,
 
 CLUSTER = ''
 ANY = None
+KUBE_SYSTEM = 'kube-system'
 RBAC = '.rbac.authorization.k8s.io'
 CERTIFICATES = '.certificates.k8s.io'
 ADMISSION = '.admissionregistration.k8s.io'
+REGISTRATION = '.apiregistration.k8s.io'
 
 # Of a row of the table: the step, its verbs and types, of which object (without a name, NAME, or any), in what kind of scope it
 # is asked, and what it takes over.
@@ -34,25 +36,32 @@ TABLE = [
     row('impersonate', 'impersonate', 'groups', 'NAME', 'cluster', 'group'),
     row('impersonate', 'impersonate', 'serviceaccounts', 'NAME', 'NS', 'account'),
     row('token', 'create', 'serviceaccounts/token', 'NAME', 'NS', 'account'),
-    row('run', 'create', 'pods jobs.batch', '-', 'NS', 'account'),
+    row('run', 'create', 'pods jobs.batch', 'any', 'NS', 'account'),
     row('run', 'create update patch', 'replicationcontrollers daemonsets.apps deployments.apps replicasets.apps statefulsets.apps '
-        'cronjobs.batch', '-', 'NS', 'account'),
-    row('exec', 'create get', 'pods/attach pods/exec', '-', 'NS', 'account'),
-    row('exec', 'update patch', 'pods pods/ephemeralcontainers', '-', 'NS', 'account'),
-    row('secrets', 'get list watch', 'secrets', '-', 'NS', 'account'),
-    row('nodes', 'create get', 'nodes/proxy', '-', 'cluster', 'account'),
-    row('bind', 'bind', 'clusterroles' + RBAC + ' roles' + RBAC, '-', 'scope', 'everything'),
+        'cronjobs.batch controllerrevisions.apps', 'any', 'NS', 'account'),
+    row('exec', 'create get', 'pods/attach pods/exec', 'any', 'NS', 'account'),
+    row('exec', 'update patch', 'pods pods/ephemeralcontainers', 'any', 'NS', 'account'),
+    row('secrets', 'get list watch update patch delete deletecollection', 'secrets', 'any', 'NS', 'account'),
+    row('nodes', 'create get', 'nodes/proxy', 'any', 'cluster', 'account'),
+    row('bind', 'bind', 'clusterroles' + RBAC, '-', 'scope', 'everything'),
     row('bind', 'bind', 'clusterroles' + RBAC, 'NAME', 'scope', 'ClusterRole'),
     row('bind', 'bind', 'roles' + RBAC, 'NAME', 'NS', 'Role'),
-    row('escalate', 'escalate', 'clusterroles' + RBAC + ' roles' + RBAC, 'any', 'cluster', 'everything'),
+    row('escalate', 'escalate', 'clusterroles' + RBAC, 'any', 'cluster', 'everything'),
     row('escalate', 'escalate', 'roles' + RBAC, 'any', 'NS', 'everything'),
-    row('certificates', 'update patch', 'certificatesigningrequests/approval' + CERTIFICATES, '-', 'cluster', 'everything'),
-    row('webhooks', 'create update patch', 'mutatingwebhookconfigurations' + ADMISSION + ' validatingwebhookconfigurations' + ADMISSION,
-        '-', 'cluster', 'everything'),
+    row('certificates', 'update patch', 'certificatesigningrequests/approval' + CERTIFICATES, 'any', 'cluster', 'everything'),
+    row('certificates', 'create', 'certificatesigningrequests/nodeclient' + CERTIFICATES + ' certificatesigningrequests/selfnodeclient'
+        + CERTIFICATES, 'any', 'cluster', 'account'),
+    row('webhooks', 'create update patch', ' '.join(word + ADMISSION for word in (
+        'mutatingwebhookconfigurations', 'validatingwebhookconfigurations', 'mutatingadmissionpolicies', 'mutatingadmissionpolicybindings')),
+        'any', 'cluster', 'everything'),
+    row('apiservices', 'create update patch', 'apiservices' + REGISTRATION, 'any', 'cluster', 'everything'),
+    row('bootstrap', 'create update patch', 'secrets', 'any', KUBE_SYSTEM, 'bootstrapper'),
+    row('volumes', 'create', 'persistentvolumes', 'any', 'cluster', 'nobody'),
+    row('namespaces', 'update patch', 'namespaces', 'any', 'NS', 'nobody'),
 ]
 STEPS = [*dict.fromkeys(row.step for row in TABLE)]
-# Whatever the names of a rule are, it gives these in `powers`.
-NAMED_STEPS = {'impersonate', 'token', 'bind', 'escalate'}
+# These are powers alone: they take over nobody.
+POWERS_ALONE = {row.step for row in TABLE if row.over == 'nobody'}
 
 Node = collections.namedtuple('Node', 'kind name scope groups', defaults=[frozenset()])
 # What is asked of a node: where, the verb, the target, and whether the names of a rule don't count.
@@ -120,24 +129,37 @@ def target(type_word, name):
     return 'resource', group, resource, name
 
 
+def is_nameless(verb, type_word):
+    """Whether a request has no object name, so that a rule limited to names doesn't allow it."""
+    resource = type_word.partition('.')[0]
+    is_of_nodes = resource in ('certificatesigningrequests/nodeclient', 'certificatesigningrequests/selfnodeclient')
+    return verb == 'deletecollection' or verb == 'create' and ('/' not in resource or is_of_nodes)
+
+
 def requests_of(row, namespace, name):
     """What a row asks in a scope, of an object or of any."""
-    return [Request(namespace, verb, target(word, name or ''), name is ANY) for word in row.types for verb in row.verbs]
+    return [Request(namespace, verb, target(word, name or ''), name is ANY and not is_nameless(verb, word))
+            for word in row.types for verb in row.verbs]
 
 
 def requests_for(row, node):
     """Any of these takes over a node by a row; none does if the row takes over no such nodes."""
     namespace, name = account_of(node) or (node.scope, node.name)
-    if row.place == 'cluster' and node.scope is None:
+    if row.place == KUBE_SYSTEM:
+        namespace = KUBE_SYSTEM
+    elif row.place == 'cluster' and node.scope is None:
         namespace = CLUSTER
-    if what_it_is(node) != row.over or row.place not in ('scope', 'cluster' if namespace == CLUSTER else 'NS'):
+    if row.over not in what_it_is(node) or row.place not in ('scope', KUBE_SYSTEM, 'cluster' if namespace == CLUSTER else 'NS'):
         return []
     return requests_of(row, namespace, {'-': '', 'NAME': name, 'any': ANY}[row.of])
 
 
 def what_it_is(node):
-    """The word of the table for such nodes."""
-    return 'account' if account_of(node) else {'u': 'user', 'g': 'group', '*': 'everything'}.get(node.kind, node.kind)
+    """The words of the table for such nodes."""
+    if node.kind == 'g':
+        is_bootstrapper = node.name == 'system:bootstrappers' or node.name.startswith('system:bootstrappers:')
+        return {'group', 'bootstrapper'} if is_bootstrapper else {'group'}
+    return {'account' if account_of(node) else {'u': 'user', '*': 'everything'}.get(node.kind, node.kind)}
 
 
 def rule_gives(rule, request):
@@ -324,10 +346,15 @@ def indirect(given, request, steps=STEPS):
 
 # ---- the watch list
 
+def counts(row, home):
+    """Whether a row counts for a binding in a scope."""
+    return home == CLUSTER or row.place in ('NS', 'scope') or row.place == home == KUBE_SYSTEM
+
+
 def gives(step, home, rule):
     """Whether a rule gives a step by a binding in a scope."""
-    rows = [row for row in TABLE if row.step == step and (home == CLUSTER or row.place != 'cluster')]
-    return any(rule_gives(rule, request) for row in rows for request in requests_of(row, home, ANY if step in NAMED_STEPS else ''))
+    rows = [row for row in TABLE if row.step == step and counts(row, home)]
+    return any(rule_gives(rule, request) for row in rows for request in requests_of(row, home, '' if row.of == '-' else ANY))
 
 
 def powers(given):

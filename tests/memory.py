@@ -533,7 +533,8 @@ def faults(room):
     yield Case('U6', ['lint', '--only', 'L1,'], b'', 2, err='U6 bad code')
     yield Case('U7', ['diff', '--before', missing, '--after', missing, '--with', missing], b'', 2, err='U7 give either --after, or --with or --without')
     yield Case('U8', ['paths', '--steps', 'run,', 'u:kim', missing], b'', 2,
-               err='U8 steps are impersonate, token, run, exec, secrets, nodes, bind, escalate, certificates, webhooks')
+               err='U8 steps are impersonate, token, run, exec, secrets, nodes, bind, escalate, certificates, webhooks, '
+                   'apiservices, bootstrap, volumes, namespaces')
     yield Case('U9', ['who-can', '--indirect', '--why', 'get', 'pods', missing], b'', 2,
                err='U9 --indirect excludes --anywhere, --any-name, --every and --why; --steps needs --indirect')
     yield Case('a word that is not UTF-8', ['can-i', '--as', b'al\xffce', 'get', 'pods'], b'', 2, err='argument 3: not UTF-8')

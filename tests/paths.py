@@ -30,11 +30,11 @@ from meaning import account, groups_of, text_shown
 from matrix_pages import some
 
 # What is drawn from. Some names stand for a user, a group, an account, a namespace and a role.
-NAMESPACES = ['dev', 'prod', '*', '-', 'a/b', 'x:y']
+NAMESPACES = ['dev', 'prod', '*', '-', 'a/b', 'x:y', 'kube-system']
 ACCOUNTS = ['ci', 'bot', '*', '-', 'a:b']
 USERS = ['alice', 'bob', 'ci', '*', '-', 'a\tb', 'é\\', 'system:anonymous', 'system:serviceaccount:dev:', 'system:serviceaccount:dev:ci:x']
 TEAMS = ['devs', 'alice', 'a,b', '*', '-', 'system:authenticated', 'system:unauthenticated', 'system:serviceaccounts',
-         'system:serviceaccounts:dev', 'system:serviceaccounts:*']
+         'system:serviceaccounts:dev', 'system:serviceaccounts:*', 'system:bootstrappers', 'system:bootstrappers:a', 'system:bootstrappersa']
 ROLES = ['a', 'b', 'ci', '*', '-', 'x/y', 'é\\']
 # Words beside those of a row: most of them match nothing of the table, some all of it.
 VERBS = ['get', 'create', 'bind', 'delete', 'Bind', '']
@@ -44,17 +44,24 @@ RESOURCES = ['pods', 'jobs', 'users', 'roles', 'serviceaccounts', 'nodes', 'secr
 # The URLs of rules.
 URLS = ['*', '/', '/healthz', '/healthz/*', '/metrics*', 'x']
 # How many lines `powers` has of each step over the example cluster.
-POWERS = {'impersonate': 10, 'token': 10, 'run': 15, 'exec': 12, 'secrets': 15, 'nodes': 6, 'bind': 7, 'escalate': 6, 'certificates': 5, 'webhooks': 5}
+POWERS = {'impersonate': 10, 'token': 10, 'run': 15, 'exec': 12, 'secrets': 15, 'nodes': 6, 'bind': 7, 'escalate': 6, 'certificates': 5, 'webhooks': 5,
+          'apiservices': 5, 'bootstrap': 8, 'volumes': 5, 'namespaces': 5}
 
 
 # ---- drawing an export
+
+def extra_kinds(over, name):
+    """What else of the table a principal of this kind and name is."""
+    return escalation.what_it_is(escalation.node_of('g:' + name)) if over == 'group' else set()
+
 
 class World:
     """The names of an export."""
 
     def __init__(self, draw):
         self.draw = draw
-        self.namespaces = draw.sample(NAMESPACES, 2) + ['default'] * (draw.random() < 0.3)
+        self.namespaces = [*{*draw.sample(NAMESPACES, 2), *draw.sample(['default', 'kube-system'], draw.choice([0, 0, 1]))}]
+        self.namespaces.sort()
         self.homes = some(draw, self.namespaces)
         self.accounts = some(draw, ACCOUNTS, 2)
         self.users = some(draw, USERS) + [account(home, name) for home in self.namespaces for name in self.accounts if draw.random() < 0.3]
@@ -71,7 +78,7 @@ class World:
         words = [word.partition('.') for word in some(draw, row.types)]
         drawn = {'verbs': self.words(some(draw, row.verbs), VERBS), 'apiGroups': self.words([group for _, _, group in words], GROUPS),
                  'resources': self.words([resource for resource, _, _ in words], RESOURCES)}
-        if draw.random() < (0.6 if row.of != '-' or row.step == 'bind' else 0.2):
+        if draw.random() < (0.6 if row.of != 'any' else 0.3):
             named = {'user': self.users, 'group': self.teams, 'ClusterRole': self.roles, 'Role': self.roles}.get(row.over, self.accounts)
             drawn['resourceNames'] = some(draw, named) + some(draw, self.users + self.teams + [''])[1:]
         return drawn
@@ -134,13 +141,14 @@ class World:
         ends = some(draw, others, 2) + [('account', name, home) for name in self.accounts for home in self.namespaces]
         draw.shuffle(ends)
         for number, (one, (over, name, home)) in enumerate(zip(ends, ends[1:])):
-            role, row = 'chain%d' % number, draw.choice([row for row in TABLE if row.over == over])
+            role, row = 'chain%d' % number, draw.choice([row for row in TABLE if row.over == over or row.over in extra_kinds(over, name)])
             yield self.narrow(role, row, name)
             if draw.random() < 0.3:
                 [binds] = [row for row in TABLE if row.over == 'ClusterRole']
                 yield self.narrow(role + 'b', binds, role)
                 role += 'b'
-            yield self.bound(role, None if row.place == 'cluster' else home, [one, *ends[:number][-1:]] if is_double else [one])
+            home = {'cluster': None, 'kube-system': 'kube-system'}.get(row.place, home)
+            yield self.bound(role, home, [one, *ends[:number][-1:]] if is_double else [one])
 
     def narrow(self, role, row, name):
         """A role that allows one request of a row."""
@@ -215,7 +223,7 @@ def target_asked(draw, given):
 
 def questions(draw, world, given):
     """The words of each question about an export; the steps are the same in most of them, so that the laws can be looked for."""
-    most = draw.choice([1, 4, 8, 9]) if draw.random() < 0.3 else None
+    most = draw.choice([1, 4, 8, 13]) if draw.random() < 0.3 else None
     steps = ['--steps=' + ','.join(draw.sample(STEPS, most))] if most else []
     yield ['powers']
     for _ in range(7):
@@ -460,7 +468,8 @@ def kinds_of(asked):
 
 def too_few(counts, exports):
     """What is hardly drawn: each step in each command, each number of steps, and answers with and without a line."""
-    wanted = ['%s by %s' % (command, step) for command in ('powers', 'paths', 'who-can') for step in STEPS]
+    wanted = ['%s by %s' % (command, step) for command in ('powers', 'paths', 'who-can') for step in STEPS
+              if command == 'powers' or step not in escalation.POWERS_ALONE]
     wanted += ['%s of %d steps' % (command, number) for command in ('paths', 'who-can') for number in range(command == 'paths', 5)]
     wanted += [command + ' without a line' for command in ('powers', 'paths', 'who-can')] + ['who-can ' + kind for kind in KINDS]
     return [name for name in wanted if counts[name] < exports // 100]

@@ -42,8 +42,10 @@ BAD_CHANGES = ([], ['--before', 'b'], ['--after', 'b', '--with', 'c'], ['--witho
 
 
 # The steps of the table, in its order.
-STEPS = ('impersonate', 'token', 'run', 'exec', 'secrets', 'nodes', 'bind', 'escalate', 'certificates', 'webhooks')
-BAD_STEP = b'rbacaudit: U8 steps are impersonate, token, run, exec, secrets, nodes, bind, escalate, certificates, webhooks\n'
+STEPS = ('impersonate', 'token', 'run', 'exec', 'secrets', 'nodes', 'bind', 'escalate', 'certificates', 'webhooks', 'apiservices',
+         'bootstrap', 'volumes', 'namespaces')
+BAD_STEP = b'rbacaudit: U8 steps are impersonate, token, run, exec, secrets, nodes, bind, escalate, certificates, webhooks, ' \
+           b'apiservices, bootstrap, volumes, namespaces\n'
 BAD_INDIRECT = b'rbacaudit: U9 --indirect excludes --anywhere, --any-name, --every and --why; --steps needs --indirect\n'
 # Options of `who-can` that don't go together.
 NO_WAYS = [*(['--indirect', *options] for count in range(1, 5) for options in itertools.combinations(['--anywhere', '--any-name', '--every', '--why'], count)),

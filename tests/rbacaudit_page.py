@@ -333,14 +333,21 @@ def path_limit():
     checked('--paths: a long name is refused in time', time.monotonic() - began < 10)
 
 
+def place_of(where):
+    """Where a pair counts, as the table of steps says it."""
+    return {'whole cluster': True, 'kube-system': 'kube-system'}[where[0]] if where else False
+
+
 def watch_list():
     """The watch list has the steps of docs/BEHAVIOUR.md, and then everything; --watched prints its
     pairs, and needs no rows."""
     *watched, everything = json.loads(contents('page', 'watched.json'))
     table = steps()
     same('the watch list: the steps', [
-        (it['id'], verbs, types, where == ['whole cluster'], it.get('names') == 'any')
-        for it in watched for verbs, types, *where in it['pairs']], table)
+        (it['id'], verbs, types, place_of(where)) for it in watched for verbs, types, *where in it['pairs']],
+         [row[:-1] for row in table])
+    same('the watch list: the steps that count names', {it['id'] for it in watched if it.get('names') == 'any'},
+         {step for step, *_, named in table if named})
     same('the watch list: each step has one category', [it['id'] for it in watched],
          [*dict.fromkeys(step for step, *_ in table)])
     same('the watch list: everything', (everything['id'], everything['pairs']), ('everything', []))

@@ -121,11 +121,13 @@ def contents(*path):
 
 def steps():
     """The table of steps of docs/BEHAVIOUR.md: the step, its verbs, its types, whether a
-    ClusterRoleBinding alone gives it, and whether it counts rules for any names."""
+    ClusterRoleBinding alone gives it (or one in kube-system too), and whether it counts rules for any
+    names."""
     table = contents('docs', 'BEHAVIOUR.md').partition('## `powers`')[2].partition('\n## ')[0]
     lines = [line.split('|')[1:-1] for line in table.splitlines() if line.startswith('| `')]
     return [(step.strip(' `'), *(re.findall('`(.*?)`', cell) for cell in (verbs, types)),
-             {'a ClusterRoleBinding': True, 'any binding': False}[granted.strip()],
+             {'a ClusterRoleBinding': True, 'any binding': False,
+              'a ClusterRoleBinding, or a RoleBinding in `kube-system`': 'kube-system'}[granted.strip()],
              {'any': True, 'none': False}[names.strip()])
             for step, verbs, types, granted, names in lines]
 

@@ -29,7 +29,7 @@ KINDS = {
 # The words of a kind: the verbs of a server's requests, and those that Kubernetes checks beside them; and the steps of powers.
 WORDS = {
     'verb': 'get list watch create update patch delete deletecollection use bind escalate impersonate',
-    'step': 'impersonate token run exec secrets nodes bind escalate certificates webhooks',
+    'step': 'impersonate token run exec secrets nodes bind escalate certificates webhooks apiservices bootstrap volumes namespaces',
 }
 # After these a line has nothing else that counts, so that nothing else is offered.
 LAST = '--help', '--version'

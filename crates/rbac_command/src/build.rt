@@ -166,15 +166,23 @@ const POWERS_MORE: &str = "A line has eight fields, joined by tabs:
   token         create tokens of service accounts
   run           create Pods, or workloads that create them, under any service account
   exec          run commands in containers
-  secrets       read Secrets, which can hold tokens of service accounts
+  secrets       read Secrets, which can hold tokens of service accounts; also by changing them
   nodes         reach each container of a node through its kubelet
   bind          bind roles that grant more than WHO has
   escalate      write rules that grant more than WHO has
   certificates  approve client certificates, with which one can sign in as any user
-  webhooks      read and change the objects that other users write
+  webhooks      read and change the objects that other users write, or change them by policies
+  apiservices   answer requests in the place of the API server, and so tell it who asks
+  bootstrap     sign in by bootstrap tokens, in groups that begin with system:bootstrappers
+  volumes       make volumes, which may be directories of a node; leads to nobody in paths
+  namespaces    change the labels that choose the pod security level; leads to nobody in paths
 
-A rule that is limited to object names counts only for impersonate, token, bind and escalate. The
-exit status is 0 even if there is no line; 2 is an error.
+A rule that is limited to object names counts for each request that has a name: not for create of
+an object, nor for deletecollection. What else a step needs isn't asked for: to impersonate a group,
+a user to impersonate; to bind, the right to write bindings; to escalate, the right to write roles;
+to exec, a pod. Whoever can run pods also reads the Secrets of the namespace, by mounting them.
+
+The exit status is 0 even if there is no line; 2 is an error.
 
 Examples:
   rbacaudit powers cluster.json namespaced.json

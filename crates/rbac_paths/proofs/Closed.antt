@@ -1,12 +1,12 @@
--- Each role that is taken over has a name that some rule lets one bind. A node that may bind any
--- role of a scope takes over everything there, so its roles are left out.
+-- Each role that is taken over has a bound name. A node that may bind each cluster role of a scope
+-- takes over everything there, so its roles are left out.
 use Rattle.std.proofs.Common.{◌≡◌, ◌≢◌, ◌∙◌, ◌⊎◌, ◌+◌, Bool, false, true, cond, filter, ℕ, zero, suc, List, [], ◌∷◌, Option, Some, None, Any, Contains, ap, arith, inl, inr, refl, slice_get, subst, sym}
 use Rattle.std.specs.Prelude.{codes}
 use Rattle.std.specs.List.{flat_map}
 use Rattle.std.proofs.lemmas.List.Elements.{Contains-append_cases}
 use Rattle.std.proofs.lemmas.Option.{get_or_from_slice_get, slice_get-get_or, slice_get_within}
 use Rattle.rbac_terms.specs.Text.{Text}
-use Rattle.rbac_terms.specs.Matching.{NameMatches, VerbOk}
+use Rattle.rbac_terms.specs.Matching.{VerbOk}
 use Rattle.rbac_terms.specs.Targets.{Resource}
 use Rattle.rbac_terms.specs.declared.granting.Binding.{Binding}
 use Rattle.rbac_terms.specs.declared.granting.RoleRef.{RoleRef}
@@ -14,21 +14,22 @@ use Rattle.rbac_terms.specs.declared.granting.RoleRef.TheVariants.{Role as ToRol
 use Rattle.rbac_terms.specs.declared.granting.ClusterRole.{ClusterRole}
 use Rattle.rbac_terms.specs.declared.granting.Role.{Role}
 use Rattle.rbac_terms.specs.declared.matching.Rule.{Rule}
+use Rattle.rbac_model.proofs.Decided.{rule as decided}
 use Rattle.rbac_model.proofs.GrantNumbers.{binding_of}
 use Rattle.rbac_model.proofs.OwnWords.{any_from}
 use Rattle.rbac_model.proofs.Stairs.{reached_held}
 use Rattle.rbac_model.specs.Policies.{AreRulesFor, AreRulesOf, GrantView, Held, IsPolicy, IsRefTo, Live, PolicyView, Source, InRole, InClusterRole, SourcedRule, written_from}
-use Rattle.rbac_paths.specs.BoundNames.{BindsNamed, IsBoundName}
+use Rattle.rbac_paths.specs.BoundNames.{BindsAny, BindsEachRole, BindsNamed, IsBoundName, SomeRule}
 use Rattle.rbac_paths.specs.Having.{HasRoleRule, HoldingView, IsHolding}
 use Rattle.rbac_paths.specs.Joints.{IsNobody}
 use Rattle.rbac_paths.specs.Nodes.{NodeView, Somebody, ClusterRoleIn, OwnRole, EverythingIn}
 use Rattle.rbac_paths.specs.Rows.{HasRowResource, MatchesRow}
-use Rattle.rbac_paths.specs.Steps.{StepRowView, asked_in, row, table}
+use Rattle.rbac_paths.specs.Steps.{StepRowView, asked_in, rbac, row, table}
 use Rattle.rbac_paths.specs.Taking.{IsOver, RowTakes, RuleTakes, scope_namespace}
 use Rattle.rbac_paths.specs.TakingOver.{MayGoOn, HasAll, IsUntold, TakesByStep}
 use Rattle.rbac_paths.proofs.AllowedBy.{allow_by}
 use Rattle.rbac_paths.proofs.ByRules.{takes_over}
-use Rattle.rbac_paths.proofs.Mapped.{one_element}
+use Rattle.rbac_paths.proofs.Mapped.{is_element, one_element}
 use Rattle.rbac_steps.specs.declared.steps.Step.{Step}
 use Rattle.rbac_paths.specs.declared.table.Counts.{Counts}
 use Rattle.rbac_paths.specs.declared.table.Counts.TheVariants as counted
@@ -100,28 +101,31 @@ module _ (p : PolicyView) (ok : IsPolicy p) where
 
 -- ---- rows that bind roles by name
 
-abbrev rbac : Text
-rbac = codes "rbac.authorization.k8s.io"
-
 abbrev bind_by_name : Text → Over → StepRowView
 bind_by_name resource over = row Bind names.Own counted.InNamespaces (codes "bind" ∷ []) rbac (resource ∷ []) over
 
 abbrev bind_all : StepRowView
-bind_all = row Bind names.None counted.InNamespaces (codes "bind" ∷ []) rbac (codes "clusterroles" ∷ codes "roles" ∷ []) over.Everything
+bind_all = row Bind names.None counted.InNamespaces (codes "bind" ∷ []) rbac (codes "clusterroles" ∷ []) over.Everything
 
 over_cluster_role : (o : Over) (counts : Counts) (role : ClusterRole) (scope : Option Text) (namespace own : Text) → IsOver o counts (ClusterRoleIn role scope) namespace own → o ≡ over.ClusterRoles
 over_cluster_role over.Users counts role scope namespace own is = elim is [ ]
 over_cluster_role over.Groups counts role scope namespace own is = elim is [ ]
+over_cluster_role over.Bootstrappers counts role scope namespace own is = elim is [ ]
 over_cluster_role over.Accounts counts role scope namespace own is = elim is [ ]
 over_cluster_role over.Everything counts role scope namespace own is = elim is [ ]
+over_cluster_role over.EverythingInNamespace counts role scope namespace own is = elim is [ ]
+over_cluster_role over.Nothing counts role scope namespace own is = elim is [ ]
 over_cluster_role over.ClusterRoles counts role scope namespace own is = refl
 over_cluster_role over.Roles counts role scope namespace own is = elim is [ ]
 
 over_role : (o : Over) (counts : Counts) (role : Role) (namespace own : Text) → IsOver o counts (OwnRole role) namespace own → o ≡ over.Roles
 over_role over.Users counts role namespace own is = elim is [ ]
 over_role over.Groups counts role namespace own is = elim is [ ]
+over_role over.Bootstrappers counts role namespace own is = elim is [ ]
 over_role over.Accounts counts role namespace own is = elim is [ ]
 over_role over.Everything counts role namespace own is = elim is [ ]
+over_role over.EverythingInNamespace counts role namespace own is = elim is [ ]
+over_role over.Nothing counts role namespace own is = elim is [ ]
 over_role over.ClusterRoles counts role namespace own is = elim is [ ]
 over_role over.Roles counts role namespace own is = refl
 
@@ -155,36 +159,45 @@ one_of_roles r c is =
     let kept : Contains (bind_by_name (codes "roles") over.Roles ∷ []) r = is_kept (λ x. over_roles x.over) table r c (ap over_roles is) in
     sym (one_element (bind_by_name (codes "roles") over.Roles) r kept)
 
--- where a binding is live for a resource doesn't depend on the object name
-live_as : (home : Option Text) (asked group text name other : Text) → Live home asked (Resource group text name) → Live home asked (Resource group text other)
-live_as None asked group text name other live = live
-live_as (Some own) asked group text name other live = live
+-- where a binding is live for a resource doesn't depend on the resource text and the object name
+live_as : (home : Option Text) (asked group text name there other : Text) → Live home asked (Resource group text name) → Live home asked (Resource group there other)
+live_as None asked group text name there other live = live
+live_as (Some own) asked group text name there other live = live
 
--- a rule without names that binds a role takes over everything in the scope; a rule with names has
--- the role's name
-module _ (home : Option Text) (rule : Rule) (resource : Text) (o : Over) (at : Contains table (bind_by_name resource o)) (among : (t : Text) → Contains (resource ∷ []) t → Contains (codes "clusterroles" ∷ codes "roles" ∷ []) t) (y : NodeView) (scope : Option Text)
-    (there : (namespace own : Text) → IsOver o counted.InNamespaces y namespace own → namespace ≡ scope_namespace scope) where
-  abbrev pub NamedOrAll : RowTakes (bind_by_name resource o) home rule y → Type 0
-  NamedOrAll w = BindsNamed rule w.own ⊎ RuleTakes Bind home rule (EverythingIn scope)
-
-  by_names : (w : RowTakes (bind_by_name resource o) home rule y) → NameMatches rule.resource_names w.name → NamedOrAll w
-  by_names w (inl none) = inr (any_from (λ row. (row.step ≡ Bind) × RowTakes row home rule (EverythingIn scope)) table bind_all (13, omega arith, refl) (
+-- a rule that lets one bind each cluster role takes over everything in the scope
+module _ (home : Option Text) (rule : Rule) (y : NodeView) (scope : Option Text) (resource : Text) (o : Over) (w : RowTakes (bind_by_name resource o) home rule y) (there : w.namespace ≡ scope_namespace scope) where
+  takes_all : BindsAny (codes "clusterroles") rule → RuleTakes Bind home rule (EverythingIn scope)
+  takes_all binds = any_from (λ row. (row.step ≡ Bind) × RowTakes row home rule (EverythingIn scope)) table bind_all (15, omega arith, refl) (
     refl,
     record {
       namespace = w.namespace;
       own = [];
-      verb = w.verb;
-      text = w.text;
+      verb = codes "bind";
+      text = codes "clusterroles";
       name = [];
-      over = (there w.namespace w.own w.over, refl, tt);
-      of_verbs = w.of_verbs;
-      of_resources = among w.text w.of_resources;
+      over = (there, refl, tt);
+      of_verbs = is_element (codes "bind") (codes "bind") refl;
+      of_resources = is_element (codes "clusterroles") (codes "clusterroles") refl;
       named = refl;
-      live = live_as home w.namespace rbac w.text w.name [] w.live;
-      allows = (w.allows.0, (w.allows.1.0, w.allows.1.1, inl none));
+      live = live_as home w.namespace rbac w.text w.name (codes "clusterroles") [] w.live;
+      allows = binds;
     },
-  ))
-  by_names w (inr has) = inl (
+  )
+
+  -- the rule lets one bind each role of the kind, if it has no names
+  binds_any : rule.resource_names ≡ [] → BindsAny resource rule
+  binds_any none = (
+    subst (λ (v : Text). VerbOk rule v) (sym (one_element (codes "bind") w.verb w.of_verbs)) w.allows.0,
+    (
+      w.allows.1.0,
+      subst (λ (t : Text). HasRowResource rule t) (sym (one_element resource w.text w.of_resources)) w.allows.1.1,
+      inl none,
+    ),
+  )
+
+  -- the rule has the role's name
+  by_name : Contains table (bind_by_name resource o) → Contains rule.resource_names w.name → BindsNamed rule w.own
+  by_name at has = (
     any_from (λ row. (row.step ≡ Bind) × MatchesRow row rule) table (bind_by_name resource o) at (
       refl,
       (
@@ -196,16 +209,25 @@ module _ (home : Option Text) (rule : Rule) (resource : Text) (o : Over) (at : C
     subst (λ (t : Text). Contains rule.resource_names t) w.named has,
   )
 
-  named_or_all : (w : RowTakes (bind_by_name resource o) home rule y) → NamedOrAll w
-  named_or_all w = by_names w w.allows.1.2
+-- a rule that binds a cluster role has its name, or takes over everything in the scope
+module _ (home : Option Text) (rule : Rule) (y : NodeView) (scope : Option Text) (at : Contains table (bind_by_name (codes "clusterroles") over.ClusterRoles)) where
+  named_or_all : (w : RowTakes (bind_by_name (codes "clusterroles") over.ClusterRoles) home rule y) → w.namespace ≡ scope_namespace scope → BindsNamed rule w.own ⊎ RuleTakes Bind home rule (EverythingIn scope)
+  named_or_all w there = elim w.allows.1.2 [
+    | inl none ↦ inr (takes_all home rule y scope (codes "clusterroles") over.ClusterRoles w there (binds_any home rule y scope (codes "clusterroles") over.ClusterRoles w there none))
+    | inr has ↦ inl (by_name home rule y scope (codes "clusterroles") over.ClusterRoles w there at has)
+  ]
 
-in_two_first : (t : Text) → Contains (codes "clusterroles" ∷ []) t → Contains (codes "clusterroles" ∷ codes "roles" ∷ []) t
-in_two_first t (zero, low, is) = (0, omega arith, is)
-in_two_first t (suc k, low, is) = absurd (omega (arith, low))
-
-in_two_last : (t : Text) → Contains (codes "roles" ∷ []) t → Contains (codes "clusterroles" ∷ codes "roles" ∷ []) t
-in_two_last t (zero, low, is) = (1, omega arith, is)
-in_two_last t (suc k, low, is) = absurd (omega (arith, low))
+-- a rule that binds a Role has its name, or takes over everything in the scope, or lets one bind
+-- each Role and not each cluster role
+module _ (home : Option Text) (rule : Rule) (y : NodeView) (scope : Option Text) (at : Contains table (bind_by_name (codes "roles") over.Roles)) where
+  named_or_each : (w : RowTakes (bind_by_name (codes "roles") over.Roles) home rule y) → w.namespace ≡ scope_namespace scope → (BindsNamed rule w.own ⊎ BindsEachRole rule) ⊎ RuleTakes Bind home rule (EverythingIn scope)
+  named_or_each w there = elim w.allows.1.2 [
+    | inl none ↦ elim (decided rule (codes "bind") (Resource rbac (codes "clusterroles") [])) [
+      | inl all ↦ inr (takes_all home rule y scope (codes "roles") over.Roles w there all)
+      | inr not_all ↦ inl (inr (binds_any home rule y scope (codes "roles") over.Roles w there none, not_all))
+    ]
+    | inr has ↦ inl (inl (by_name home rule y scope (codes "roles") over.Roles w there at has))
+  ]
 
 -- everything in a scope leads to no role
 no_everything : (x y : NodeView) → IsNobody y → MayGoOn x y → (scope : Option Text) → x ≢ EverythingIn scope
@@ -218,10 +240,10 @@ no_everything (EverythingIn (Some namespace)) (ClusterRoleIn role home) is on sc
 no_everything (EverythingIn (Some namespace)) (OwnRole role) is on scope e = elim on [ ]
 no_everything (EverythingIn (Some namespace)) (EverythingIn home) is on scope e = elim on [ ]
 
--- a name that a written rule lets one bind is a bound name
-bound_by : (h : Held) (rule : Rule) (name : Text) → BindsNamed rule name → IsWritten h rule → IsBoundName h name
-bound_by h rule name binds (inl (k, role, low, is, there)) = inl (k, role, low, is, any_from (λ r. BindsNamed r name) role.rules rule there binds)
-bound_by h rule name binds (inr (k, role, low, is, there)) = inr (k, role, low, is, any_from (λ r. BindsNamed r name) role.rules rule there binds)
+-- a written rule is some rule
+some_rule : (h : Held) (Is : Rule → Type 0) (rule : Rule) → Is rule → IsWritten h rule → SomeRule Is h
+some_rule h Is rule is (inl (k, role, low, at, there)) = inl (k, role, low, at, any_from Is role.rules rule there is)
+some_rule h Is rule is (inr (k, role, low, at, there)) = inr (k, role, low, at, any_from Is role.rules rule there is)
 
 module _ (p : PolicyView) (ok : IsPolicy p) (steps : List Step) (x : NodeView) (held : HasOwnRole p.held x) where
   module _ (h : HoldingView) (has : IsHolding p x h) where
@@ -264,9 +286,9 @@ module _ (p : PolicyView) (ok : IsPolicy p) (steps : List Step) (x : NodeView) (
       takes : RowTakes (bind_by_name resource o) by.0.home by.0.rule y
       takes = subst (λ (r : StepRowView). RowTakes r by.0.home by.0.rule y) same by.2
 
-      bound : (name : Text) (scope : Option Text) → takes.own ≡ name → IsNobody y → (HasAll p steps x scope → IsUntold p steps x y) → BindsNamed by.0.rule takes.own ⊎ RuleTakes Bind by.0.home by.0.rule (EverythingIn scope) → IsBoundName p.held name
-      bound name scope is nobody hides (inl binds) = bound_by p.held by.0.rule name (subst (BindsNamed by.0.rule) is binds) (holding_written p ok x by.0 held (no_everything x y nobody t.goes_on) by.1)
-      bound name scope is nobody hides (inr all) = absurd (t.told (inl is_bind) (hides (all_taken by.0 by.1 scope bind_among all)))
+      bound : (Is : Rule → Type 0) (scope : Option Text) → IsNobody y → (HasAll p steps x scope → IsUntold p steps x y) → Is by.0.rule ⊎ RuleTakes Bind by.0.home by.0.rule (EverythingIn scope) → SomeRule Is p.held
+      bound Is scope nobody hides (inl is) = some_rule p.held Is by.0.rule is (holding_written p ok x by.0 held (no_everything x y nobody t.goes_on) by.1)
+      bound Is scope nobody hides (inr all) = absurd (t.told (inl is_bind) (hides (all_taken by.0 by.1 scope bind_among all)))
 
   hides_cluster_role : (role : ClusterRole) (scope : Option Text) → HasAll p steps x scope → IsUntold p steps x (ClusterRoleIn role scope)
   hides_cluster_role role None all = all
@@ -279,13 +301,22 @@ module _ (p : PolicyView) (ok : IsPolicy p) (steps : List Step) (x : NodeView) (
       let same = one_of_cluster_roles c.row c.of_table (over_cluster_role c.row.over c.row.counts role scope c.namespace c.own c.over) in
       let w = takes step y t (codes "clusterroles") over.ClusterRoles same in
       let h = (by step y t).0 in
-      bound step y t (codes "clusterroles") over.ClusterRoles same role.name scope w.over.1 tt (hides_cluster_role role scope) (named_or_all h.home h.rule (codes "clusterroles") over.ClusterRoles (in_table step y t (codes "clusterroles") over.ClusterRoles same) in_two_first y scope (λ namespace own is. is.0) w)
+      let at = in_table step y t (codes "clusterroles") over.ClusterRoles same in
+      let named : BindsNamed h.rule role.name ⊎ RuleTakes Bind h.home h.rule (EverythingIn scope) = subst (λ (n : Text). BindsNamed h.rule n ⊎ RuleTakes Bind h.home h.rule (EverythingIn scope)) w.over.1 (named_or_all h.home h.rule y scope at w w.over.0) in
+      inl (bound step y t (codes "clusterroles") over.ClusterRoles same (λ rule. BindsNamed rule role.name) scope tt (hides_cluster_role role scope) named)
 
-  pub role_bound : (step : Step) (role : Role) → TakesByStep p steps x step (OwnRole role) → IsBoundName p.held role.name
-  role_bound step role t =
+  pub role_bound : (step : Step) (role : Role) → Contains p.held.roles role → TakesByStep p steps x step (OwnRole role) → IsBoundName p.held role.name
+  role_bound step role there t =
       let y = OwnRole role in
       let c = t.can in
       let same = one_of_roles c.row c.of_table (over_role c.row.over c.row.counts role c.namespace c.own c.over) in
       let w = takes step y t (codes "roles") over.Roles same in
       let h = (by step y t).0 in
-      bound step y t (codes "roles") over.Roles same role.name (Some role.namespace) w.over.1 tt (λ all. inr all) (named_or_all h.home h.rule (codes "roles") over.Roles (in_table step y t (codes "roles") over.Roles same) in_two_last y (Some role.namespace) (λ namespace own is. is.0) w)
+      let at = in_table step y t (codes "roles") over.Roles same in
+      let named = named_or_each h.home h.rule y (Some role.namespace) at w w.over.0 in
+      let All : Type 0 = RuleTakes Bind h.home h.rule (EverythingIn (Some role.namespace)) in
+      elim named [
+        | inl (inl own) ↦ inl (bound step y t (codes "roles") over.Roles same (λ rule. BindsNamed rule role.name) (Some role.namespace) tt (λ all. inr all) (inl (subst (λ (n : Text). BindsNamed h.rule n) w.over.1 own)))
+        | inl (inr each) ↦ inr (bound step y t (codes "roles") over.Roles same BindsEachRole (Some role.namespace) tt (λ all. inr all) (inl each), any_from (λ r. r.name ≡ role.name) p.held.roles role there refl)
+        | inr all ↦ inl (bound step y t (codes "roles") over.Roles same (λ rule. BindsNamed rule role.name) (Some role.namespace) tt (λ everything. inr everything) (inr all))
+      ]

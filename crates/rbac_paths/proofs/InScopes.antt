@@ -30,11 +30,15 @@ writes_nothing _ = true
 abbrev is_strange : Over → Counts → Step → Bool
 is_strange over.Users counts step = false
 is_strange over.Groups counts step = false
+is_strange over.Bootstrappers counts step = false
 is_strange over.Accounts counts step = false
 is_strange over.Everything counted.ClusterWide step = false
 is_strange over.Everything counted.InNamespaces step = writes_nothing step
+is_strange over.Everything counted.InKubeSystem step = writes_nothing step
+is_strange over.EverythingInNamespace counts step = writes_nothing step
 is_strange over.ClusterRoles counts step = writes_nothing step
 is_strange over.Roles counts step = writes_nothing step
+is_strange over.Nothing counts step = false
 
 none_strange : (r : StepRowView) → Contains table r → is_strange r.over r.counts r.step ≡ true → ⊥
 none_strange r c e =
@@ -53,15 +57,23 @@ writes by.Secrets isnt = absurd (isnt refl)
 writes by.Nodes isnt = absurd (isnt refl)
 writes by.Certificates isnt = absurd (isnt refl)
 writes by.Webhooks isnt = absurd (isnt refl)
+writes by.ApiServices isnt = absurd (isnt refl)
+writes by.Bootstrap isnt = absurd (isnt refl)
+writes by.Volumes isnt = absurd (isnt refl)
+writes by.Namespaces isnt = absurd (isnt refl)
 
 writes_or_wide : (o : Over) (counts : Counts) (step : Step) → IsOverNobody o → (is_strange o counts step ≡ true → ⊥) → WritesRoles step ⊎ ((o ≡ over.Everything) × (counts ≡ counted.ClusterWide))
 writes_or_wide over.Users counts step nobody isnt = elim nobody [ ]
 writes_or_wide over.Groups counts step nobody isnt = elim nobody [ ]
+writes_or_wide over.Bootstrappers counts step nobody isnt = elim nobody [ ]
 writes_or_wide over.Accounts counts step nobody isnt = elim nobody [ ]
 writes_or_wide over.Everything counted.ClusterWide step nobody isnt = inr (refl, refl)
 writes_or_wide over.Everything counted.InNamespaces step nobody isnt = inl (writes step isnt)
+writes_or_wide over.Everything counted.InKubeSystem step nobody isnt = inl (writes step isnt)
+writes_or_wide over.EverythingInNamespace counts step nobody isnt = inl (writes step isnt)
 writes_or_wide over.ClusterRoles counts step nobody isnt = inl (writes step isnt)
 writes_or_wide over.Roles counts step nobody isnt = inl (writes step isnt)
+writes_or_wide over.Nothing counts step nobody isnt = elim nobody [ ]
 
 whole : (y : NodeView) (namespace own : Text) → IsOver over.Everything counted.ClusterWide y namespace own → y ≡ EverythingIn None
 whole (Somebody who) namespace own is = elim is [ ]

@@ -12,7 +12,9 @@ pub mod ByBinding
 pub mod ByRules
 pub mod Choosing
 pub mod Closed
+pub mod Counting
 pub mod Entries
+pub mod Following
 pub mod GatheredRoles
 pub mod Gathering
 pub mod GivenGrants

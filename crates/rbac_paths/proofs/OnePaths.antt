@@ -112,7 +112,7 @@ module _ (p : PolicyView) (all : List Who) (steps : List Step) (start : NodeView
   ascend xs are i j d lt l = told_less (λ (x : PathView). x.count) (λ (x : PathView). x.node) (get_or xs i d) (get_or xs j d) (are.ordered i j d lt l)
 
   -- each node that the start comes to, except the start, is listed
-  listed : (xs : List PathView) → ArePaths p all steps start xs → (n : ℕ) (y : NodeView) → IsFewest R S (suc n) y → (x : PathView) × Contains xs x × (x.node ≡ y) × (x.count ≡ suc n)
+  pub listed : (xs : List PathView) → ArePaths p all steps start xs → (n : ℕ) (y : NodeView) → IsFewest R S (suc n) y → (x : PathView) × Contains xs x × (x.node ≡ y) × (x.count ≡ suc n)
   listed xs are n y few =
       let w = are.complete (suc n) y (λ e. few.fewest 0 (omega arith) e) few.leads in
       let x = w.1 in

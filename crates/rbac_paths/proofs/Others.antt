@@ -19,9 +19,9 @@ use Rattle.rbac_paths.specs.TakingOver.{TakesOver}
 use Rattle.rbac_paths.specs.Told.{HoldingTakes, HoldingsTake, IsFirstTold, grant_holding}
 use Rattle.rbac_steps.specs.declared.steps.Step.{Step}
 use Rattle.rbac_paths.specs.declared.table.Counts.{Counts}
-use Rattle.rbac_paths.specs.declared.table.Counts.TheVariants as counted
 use Rattle.rbac_paths.specs.declared.table.Over.{Over}
 use Rattle.rbac_paths.specs.declared.table.Over.TheVariants as over
+use Rattle.rbac_paths.proofs.Counting.{live_counts, not_empty}
 
 -- a row by which a rule takes over a role or everything is a row for roles or everything, and the
 -- rule matches it
@@ -34,13 +34,19 @@ over_nobody over.Groups counts (Somebody who) namespace own nobody is = nobody
 over_nobody over.Groups counts (ClusterRoleIn role scope) namespace own nobody is = is
 over_nobody over.Groups counts (OwnRole role) namespace own nobody is = is
 over_nobody over.Groups counts (EverythingIn scope) namespace own nobody is = is
+over_nobody over.Bootstrappers counts (Somebody who) namespace own nobody is = nobody
+over_nobody over.Bootstrappers counts (ClusterRoleIn role scope) namespace own nobody is = is
+over_nobody over.Bootstrappers counts (OwnRole role) namespace own nobody is = is
+over_nobody over.Bootstrappers counts (EverythingIn scope) namespace own nobody is = is
 over_nobody over.Accounts counts (Somebody who) namespace own nobody is = nobody
 over_nobody over.Accounts counts (ClusterRoleIn role scope) namespace own nobody is = is
 over_nobody over.Accounts counts (OwnRole role) namespace own nobody is = is
 over_nobody over.Accounts counts (EverythingIn scope) namespace own nobody is = is
 over_nobody over.Everything counts y namespace own nobody is = tt
+over_nobody over.EverythingInNamespace counts y namespace own nobody is = tt
 over_nobody over.ClusterRoles counts y namespace own nobody is = tt
 over_nobody over.Roles counts y namespace own nobody is = tt
+over_nobody over.Nothing counts y namespace own nobody is = is
 
 matches : (h : HoldingView) (y : NodeView) (row : StepRowView) → IsNobody y → RowTakes row h.home h.rule y → MatchesOverOthers h.rule row
 matches h y row nobody w = (
@@ -61,28 +67,35 @@ matches_step h y step nobody a =
 at_scope : (home : Option Text) (counts : Counts) (namespace : Text) (scope : Option Text) (group text name : Text) → Live home (asked_in counts namespace) (Resource group text name) → namespace ≡ scope_namespace scope
     → (home ≡ None) ⊎ (home ≡ scope)
 at_scope None counts namespace scope group text name live e = inl refl
-at_scope (Some own) counted.ClusterWide namespace scope group text name live e = absurd (live.0 refl)
-at_scope (Some own) counted.InNamespaces namespace None group text name live e = absurd (live.0 e)
-at_scope (Some own) counted.InNamespaces namespace (Some there) group text name live e = inr (ap Some (live.1 ∙ e))
+at_scope (Some own) counts namespace None group text name live e = absurd (let w = live_counts counts own namespace group text name live in not_empty counts own w.0 (w.1 ∙ e))
+at_scope (Some own) counts namespace (Some there) group text name live e = inr (ap Some ((live_counts counts own namespace group text name live).1 ∙ e))
 
 over_scope : (o : Over) (counts : Counts) (y : NodeView) (namespace own : Text) → IsNobody y → IsOver o counts y namespace own → namespace ≡ scope_namespace (scope_at y)
 over_scope o counts (Somebody who) namespace own nobody is = absurd nobody
+over_scope over.Nothing counts y namespace own nobody is = absurd is
 over_scope over.Users counts (ClusterRoleIn role scope) namespace own nobody is = absurd is
 over_scope over.Groups counts (ClusterRoleIn role scope) namespace own nobody is = absurd is
+over_scope over.Bootstrappers counts (ClusterRoleIn role scope) namespace own nobody is = absurd is
 over_scope over.Accounts counts (ClusterRoleIn role scope) namespace own nobody is = absurd is
 over_scope over.Everything counts (ClusterRoleIn role scope) namespace own nobody is = absurd is
+over_scope over.EverythingInNamespace counts (ClusterRoleIn role scope) namespace own nobody is = absurd is
 over_scope over.ClusterRoles counts (ClusterRoleIn role scope) namespace own nobody is = is.0
 over_scope over.Roles counts (ClusterRoleIn role scope) namespace own nobody is = absurd is
 over_scope over.Users counts (OwnRole role) namespace own nobody is = absurd is
 over_scope over.Groups counts (OwnRole role) namespace own nobody is = absurd is
+over_scope over.Bootstrappers counts (OwnRole role) namespace own nobody is = absurd is
 over_scope over.Accounts counts (OwnRole role) namespace own nobody is = absurd is
 over_scope over.Everything counts (OwnRole role) namespace own nobody is = absurd is
+over_scope over.EverythingInNamespace counts (OwnRole role) namespace own nobody is = absurd is
 over_scope over.ClusterRoles counts (OwnRole role) namespace own nobody is = absurd is
 over_scope over.Roles counts (OwnRole role) namespace own nobody is = is.0
 over_scope over.Users counts (EverythingIn scope) namespace own nobody is = absurd is
 over_scope over.Groups counts (EverythingIn scope) namespace own nobody is = absurd is
+over_scope over.Bootstrappers counts (EverythingIn scope) namespace own nobody is = absurd is
 over_scope over.Accounts counts (EverythingIn scope) namespace own nobody is = absurd is
 over_scope over.Everything counts (EverythingIn scope) namespace own nobody is = is.0
+over_scope over.EverythingInNamespace counts (EverythingIn None) namespace own nobody is = absurd is
+over_scope over.EverythingInNamespace counts (EverythingIn (Some there)) namespace own nobody is = is.0
 over_scope over.ClusterRoles counts (EverythingIn scope) namespace own nobody is = absurd is
 over_scope over.Roles counts (EverythingIn scope) namespace own nobody is = absurd is
 

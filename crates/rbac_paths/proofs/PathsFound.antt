@@ -48,11 +48,11 @@ module _ (p : PolicyView) (ok : IsPolicy p) (all : List Who) (names : List Text)
       its_role y ((are.exact y).0 (k, low, get_or_default ys k y d low)).0
 
   module _ (steps : List Step) where
-    pub named : (x y : NodeView) → IsNode p all x → TakesOver p steps x y → IsNamedOf names y
-    named x (Somebody who) is takes = tt
-    named x (ClusterRoleIn role scope) is takes = (bound.exact role.name).1 (cluster_role_bound p ok steps x (own_role x is) takes.0 role scope takes.1)
-    named x (OwnRole role) is takes = (bound.exact role.name).1 (role_bound p ok steps x (own_role x is) takes.0 role takes.1)
-    named x (EverythingIn scope) is takes = tt
+    pub named : (x y : NodeView) → IsNode p all x → IsNode p all y → TakesOver p steps x y → IsNamedOf names y
+    named x (Somebody who) is node takes = tt
+    named x (ClusterRoleIn role scope) is node takes = (bound.exact role.name).1 (cluster_role_bound p ok steps x (own_role x is) takes.0 role scope takes.1)
+    named x (OwnRole role) is node takes = (bound.exact role.name).1 (role_bound p ok steps x (own_role x is) takes.0 role node.0 takes.1)
+    named x (EverythingIn scope) is node takes = tt
 
     module _ (principals : List Who) (who : Who) (exact : (other : Who) → Contains all other ↔ IsOneWith principals who other)
         (g : GraphView) (graph : IsGraphOf p steps ys g) (starts : List ℕ) (keyed : (j : ℕ) → Contains starts j ↔ HasKeyAt ys who j) where
@@ -92,7 +92,7 @@ module _ (p : PolicyView) (ok : IsPolicy p) (all : List Who) (names : List Text)
         );
         start_at = start_at;
         start_in = λ y is. (are.exact y).1 (subst (λ (z : NodeView). IsNode p all z × IsNamedOf names z) (sym is) ((exact who).1 (inl refl), tt));
-        closed = λ x y c goes. (are.exact y).1 (goes.0, named x y (is_node x c) goes.1);
+        closed = λ x y c goes. (are.exact y).1 (goes.0, named x y (is_node x c) goes.0 goes.1);
         ordered = are.ordered;
       }
 

@@ -14,10 +14,9 @@ use Rattle.rbac_paths.specs.Steps.{AllowsIn, AllowsRow, CountsIn, StepRowView, a
 use Rattle.rbac_steps.specs.Steps.{steps}
 use Rattle.rbac_paths.specs.Telling.{CanTake, AlsoHoldsIn, TellAll}
 use Rattle.rbac_steps.specs.declared.steps.Step.{Step}
-use Rattle.rbac_steps.specs.declared.steps.Step.TheVariants.{Impersonate, Token, Run, Exec, Secrets, Nodes, Bind, Escalate, Certificates, Webhooks}
-use Rattle.rbac_paths.specs.declared.table.Counts.{Counts}
-use Rattle.rbac_paths.specs.declared.table.Counts.TheVariants as counted
+use Rattle.rbac_steps.specs.declared.steps.Step.TheVariants.{Impersonate, Token, Run, Exec, Secrets, Nodes, Bind, Escalate, Certificates, Webhooks, ApiServices, Bootstrap, Volumes, Namespaces}
 use Rattle.rbac_paths.proofs.AllSteps.{ArePowersTo, each_power}
+use Rattle.rbac_paths.proofs.Counting.{counts_live, live_counts}
 
 pub in_steps : (step : Step) → Contains steps step
 in_steps Impersonate = (0, omega arith, refl)
@@ -30,21 +29,22 @@ in_steps Bind = (6, omega arith, refl)
 in_steps Escalate = (7, omega arith, refl)
 in_steps Certificates = (8, omega arith, refl)
 in_steps Webhooks = (9, omega arith, refl)
+in_steps ApiServices = (10, omega arith, refl)
+in_steps Bootstrap = (11, omega arith, refl)
+in_steps Volumes = (12, omega arith, refl)
+in_steps Namespaces = (13, omega arith, refl)
 
 -- if a binding is live for a request of a row, the row counts for the binding, and a power by the
 -- binding holds where the request is made
-counts_there : (own : Option Text) (r : StepRowView) (place : Counts) (namespace verb text name : Text) → r.counts ≡ place → Live own (asked_in place namespace) (Resource r.group text name) → CountsIn r own × AlsoHoldsIn own namespace
-counts_there None r place namespace verb text name is live = (tt, tt)
-counts_there (Some own) r counted.ClusterWide namespace verb text name is live = absurd (live.0 refl)
-counts_there (Some own) r counted.InNamespaces namespace verb text name is live = ((is, λ e. live.0 (sym live.1 ∙ e)), live.1)
+counts_there : (own : Option Text) (r : StepRowView) (namespace text name : Text) → Live own (asked_in r.counts namespace) (Resource r.group text name) → CountsIn r own × AlsoHoldsIn own namespace
+counts_there None r namespace text name live = (tt, tt)
+counts_there (Some own) r namespace text name live = live_counts r.counts own namespace r.group text name live
 
 -- if a row counts for a binding, and a power by the binding holds there, the binding is live for
 -- the row's requests there
 live_there : (own : Option Text) (r : StepRowView) (namespace text name : Text) → AlsoHoldsIn own namespace → CountsIn r own → Live own (asked_in r.counts namespace) (Resource r.group text name)
 live_there None r namespace text name holds counts = tt
-live_there (Some own) r namespace text name holds counts =
-    let asked : asked_in r.counts namespace ≡ namespace = ap (λ (p : Counts). asked_in p namespace) counts.0 in
-    (λ e. counts.1 (holds ∙ sym asked ∙ e), holds ∙ sym asked)
+live_there (Some own) r namespace text name holds counts = counts_live r.counts own namespace r.group text name counts holds
 
 -- a grant gives a principal the step by one of its keys, and a power by the grant's binding holds
 -- there
@@ -66,7 +66,7 @@ given p ok who step namespace c =
     let t = Resource row.group c.text c.name in
     let by = some_grant p.held p.grants who asked c.verb t ok.0 ok.1 c.allowed in
     let g = by.1 in
-    let there = counts_there g.binding.namespace row row.counts namespace c.verb c.text c.name refl by.4.0 in
+    let there = counts_there g.binding.namespace row namespace c.text c.name by.4.0 in
     let named = by.4.1 in
     let key = naming_key named.1 g.binding.namespace who named.4 in
     let allows : AllowsRow row g.rule.rule = record { verb = c.verb; text = c.text; name = c.name; of_verbs = c.of_verbs; of_resources = c.of_resources; named = c.named; allows = by.4.2 } in

@@ -38,7 +38,7 @@ module _ (p : PolicyView) (ok : IsPolicy p) (all : List Who) (names : List Text)
 
   -- each node that a listed node takes over is listed
   closed : (x y : NodeView) → Contains ys x → Goes x y → Contains ys y
-  closed x y c goes = (are.exact y).1 (goes.0, named p ok all names bound ys are steps x y (is_node x c) goes.1)
+  closed x y c goes = (are.exact y).1 (goes.0, named p ok all names bound ys are steps x y (is_node x c) goes.0 goes.1)
 
   -- ---- the search from users and groups
 

@@ -2,9 +2,9 @@
 use Rattle.std.proofs.Common.{◌≡◌, ◌↔◌, ◌∷◌, [], ◌∙◌, List, Result, Ok, Err, IfOk, ap, inl, inr, refl}
 use Rattle.rbac_terms.specs.Text.{Text}
 use Rattle.rbac_terms.specs.Principals.{Who, AsUser, AsMember, who_name}
-use Rattle.rbac_paths.specs.Asked.{IsAnyUser}
+use Rattle.rbac_paths.specs.Asked.{IsAnyUser, IsBootstrapperGroup}
 use Rattle.rbac_paths.specs.Nodes.{IsAccountNamed}
-use Rattle.rbac_paths.specs.SharedWords.{AreHadBy, account_words, any_group, any_user, that_group, that_user}
+use Rattle.rbac_paths.specs.SharedWords.{AreHadBy, account_words, any_user, bootstrapper_words, group_words, that_user}
 
 pub if_ok : {T E : Type 0} {P Q : T → Type 0} (r : Result T E) → ((x : T) → P x → Q x) → IfOk r P → IfOk r Q
 if_ok (Ok x) f p = f x p
@@ -18,6 +18,10 @@ pub words_of_user : (who : Who) (user : Text) → IsAnyUser who → ((n m : Text
 words_of_user (AsUser name given) user is none same ws e = inl (none, e ∙ ap (λ (t : Text). any_user ∷ that_user t ∷ []) same)
 words_of_user (AsMember group) user is none same ws e = elim is [ ]
 
-pub words_of_group : (who : Who) (group : Text) → (IsAnyUser who → ⊥) → group ≡ who_name who → (ws : List Text) → ws ≡ any_group ∷ that_group group ∷ [] → AreHadBy who ws
-words_of_group (AsUser name given) group isnt same ws e = absurd (isnt tt)
-words_of_group (AsMember name) group isnt same ws e = e ∙ ap (λ (t : Text). any_group ∷ that_group t ∷ []) same
+pub words_of_group : (who : Who) (group : Text) → (IsAnyUser who → ⊥) → (IsBootstrapperGroup who → ⊥) → group ≡ who_name who → (ws : List Text) → ws ≡ group_words group → AreHadBy who ws
+words_of_group (AsUser name given) group isnt none same ws e = absurd (isnt tt)
+words_of_group (AsMember name) group isnt none same ws e = inl (none, e ∙ ap group_words same)
+
+pub words_of_bootstrapper : (who : Who) (group : Text) → IsBootstrapperGroup who → group ≡ who_name who → (ws : List Text) → ws ≡ bootstrapper_words group → AreHadBy who ws
+words_of_bootstrapper (AsUser name given) group is same ws e = elim is [ ]
+words_of_bootstrapper (AsMember name) group is same ws e = inr (is, e ∙ ap bootstrapper_words same)

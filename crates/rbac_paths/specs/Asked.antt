@@ -9,7 +9,7 @@ use Rattle.rbac_model.specs.Policies.{Live}
 use Rattle.rbac_paths.specs.Having.{HoldingView}
 use Rattle.rbac_paths.specs.Nodes.{NodeView}
 use Rattle.rbac_paths.specs.Steps.{IsNameAsked, StepRowView, asked_in}
-use Rattle.rbac_paths.specs.Taking.{RowTakes}
+use Rattle.rbac_paths.specs.Taking.{IsBootstrapper, RowTakes}
 use Rattle.rbac_paths.specs.Told.{HoldingTakes}
 use Rattle.rbac_paths.specs.declared.table.Names.{Names}
 use Rattle.rbac_steps.specs.declared.steps.Step.{Step}
@@ -26,6 +26,11 @@ Asks Is answer = MatchOption answer
 abbrev pub IsAnyUser : Who → Type 0
 IsAnyUser (AsUser name given) = Unit {0}
 IsAnyUser (AsMember group) = ⊥
+
+-- the principal is a member of a group that bootstrap tokens can have
+abbrev pub IsBootstrapperGroup : Who → Type 0
+IsBootstrapperGroup (AsUser name given) = ⊥
+IsBootstrapperGroup (AsMember group) = IsBootstrapper group
 
 -- the rule's object names match an object name in the requests of a row for a node with that name
 abbrev pub HasRowNameFor : Names → Text → Rule → Type 0

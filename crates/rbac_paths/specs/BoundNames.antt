@@ -1,11 +1,14 @@
 -- The names of the roles that rules let one bind.
-use Rattle.std.specs.Prelude.{◌≡◌, ◌⊎◌, ◌↔◌, List, Any, Contains}
+use Rattle.std.specs.Prelude.{◌≡◌, ◌⊎◌, ◌↔◌, List, [], Any, Contains, codes}
 use Rattle.std.specs.List.Sorted.{IsStrictlySortedBy}
 use Rattle.rbac_terms.specs.Text.{Text, text_cmp}
+use Rattle.rbac_terms.specs.Matching.{RuleAllows}
+use Rattle.rbac_terms.specs.Targets.{Resource}
 use Rattle.rbac_terms.specs.declared.matching.Rule.{Rule}
 use Rattle.rbac_model.specs.Policies.{Held}
 use Rattle.rbac_paths.specs.Rows.{MatchesRow}
-use Rattle.rbac_paths.specs.Steps.{table}
+use Rattle.rbac_paths.specs.Steps.{rbac, table}
+use Rattle.rbac_paths.specs.declared.bound_names.BindWords.{BindWords}
 use Rattle.rbac_steps.specs.declared.steps.Step.TheVariants.{Bind}
 
 -- the rule lets one bind roles, and this is one of its object names
@@ -13,10 +16,29 @@ abbrev pub BindsNamed : Rule → Text → Type 0
 BindsNamed rule name = Any (λ row. (row.step ≡ Bind) × MatchesRow row rule) table
     × Contains rule.resource_names name
 
--- some rule that is written in a role lets one bind roles, and this is one of its object names
+-- some rule that is written in a role has the property
+abbrev pub SomeRule : (Rule → Type 0) → Held → Type 0
+SomeRule Is h = Any (λ role. Any Is role.rules) h.roles ⊎ Any (λ role. Any Is role.rules) h.cluster_roles
+
+-- the rule lets one bind roles of this kind, whatever their names
+abbrev pub BindsAny : Text → Rule → Type 0
+BindsAny kind rule = RuleAllows rule (codes "bind") (Resource rbac kind [])
+
+-- the rule lets one bind each Role, and not each cluster role; a rule that lets one bind each
+-- cluster role takes over everything, so that no Role counts beside it
+abbrev pub BindsEachRole : Rule → Type 0
+BindsEachRole rule = BindsAny (codes "roles") rule × (¬ BindsAny (codes "clusterroles") rule)
+
+-- the same, by the words of requests to bind
+unfoldable pub BindsEach : BindWords → Rule → Type 0
+BindsEach b rule = RuleAllows rule b.verb.now (Resource b.group.now b.roles.now [])
+    × (¬ RuleAllows rule b.verb.now (Resource b.group.now b.cluster_roles.now []))
+
+-- some rule that is written in a role lets one bind roles, and this is one of its object names; or
+-- some such rule lets one bind each Role, and a Role has this name
 abbrev pub IsBoundName : Held → Text → Type 0
-IsBoundName h name = Any (λ role. Any (λ rule. BindsNamed rule name) role.rules) h.roles
-    ⊎ Any (λ role. Any (λ rule. BindsNamed rule name) role.rules) h.cluster_roles
+IsBoundName h name = SomeRule (λ rule. BindsNamed rule name) h
+    ⊎ (SomeRule BindsEachRole h × Any (λ role. role.name ≡ name) h.roles)
 
 -- exactly these names, in byte order, each once
 pub record AreBoundNames (h : Held) (names : List Text) : Type 0 where

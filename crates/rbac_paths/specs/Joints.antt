@@ -50,14 +50,17 @@ abbrev pub AreOthersAt : PolicyView → List Step → NodeView → List NodeView
 AreOthersAt p steps x ys places js = (j : ℕ) → Contains js j
     ↔ (Contains places j × IsOther p steps x ys j)
 
--- not users, groups or service accounts are taken over
+-- roles or everything are taken over, and not users, groups, service accounts or nothing
 abbrev pub IsOverNobody : Over → Type 0
 IsOverNobody over.Users = ⊥
 IsOverNobody over.Groups = ⊥
+IsOverNobody over.Bootstrappers = ⊥
 IsOverNobody over.Accounts = ⊥
 IsOverNobody over.Everything = Unit {0}
+IsOverNobody over.EverythingInNamespace = Unit {0}
 IsOverNobody over.ClusterRoles = Unit {0}
 IsOverNobody over.Roles = Unit {0}
+IsOverNobody over.Nothing = ⊥
 
 -- the row takes over roles or everything, and the rule matches it
 abbrev pub MatchesOverOthers : Rule → StepRowView → Type 0

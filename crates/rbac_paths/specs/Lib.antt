@@ -7,6 +7,7 @@ pub mod Asked
 pub mod BoundNames
 pub mod Deciding
 pub mod Finding
+pub mod Following
 pub mod Having
 pub mod Joints
 pub mod Lines

@@ -10,8 +10,9 @@ use Rattle.rbac_model.specs.Policies.{GrantView, PolicyView}
 use Rattle.rbac_paths.specs.Having.{HoldingView}
 use Rattle.rbac_paths.specs.Nodes.{IsAccountNamed}
 use Rattle.rbac_paths.specs.Rows.{MatchesRow}
-use Rattle.rbac_paths.specs.Steps.{StepRowView, table}
+use Rattle.rbac_paths.specs.Steps.{CountsThere, StepRowView, kube_system, table}
 use Rattle.rbac_paths.specs.Takeovers.{takeover_of}
+use Rattle.rbac_paths.specs.Taking.{IsBootstrapper}
 use Rattle.rbac_steps.specs.declared.steps.Step.{Step}
 use Rattle.rbac_paths.specs.declared.table.Counts.{Counts}
 use Rattle.rbac_paths.specs.declared.table.Counts.TheVariants as counted
@@ -37,6 +38,19 @@ any_group = codes "G"
 abbrev pub that_group : Text → Text
 that_group name = codes "H" ++ name
 
+-- the word for any group that bootstrap tokens can have
+abbrev pub any_bootstrapper : Text
+any_bootstrapper = codes "I"
+
+-- the word for that group, if bootstrap tokens can have it
+abbrev pub that_bootstrapper : Text → Text
+that_bootstrapper name = codes "J" ++ name
+
+-- the word for the group with that name, or for any group, that bootstrap tokens can have
+abbrev pub bootstrap_word : Option Text → Text
+bootstrap_word None = any_bootstrapper
+bootstrap_word (Some name) = that_bootstrapper name
+
 -- the word for any service account
 abbrev pub any_account : Text
 any_account = codes "A"
@@ -58,6 +72,15 @@ abbrev pub account_words : Text → Text → Text → List Text
 account_words user namespace name = any_account ∷ any_account_of namespace
     ∷ any_account_named name ∷ that_account user ∷ []
 
+-- the words by which a group can be had
+abbrev pub group_words : Text → List Text
+group_words group = any_group ∷ that_group group ∷ []
+
+-- the words by which a group that bootstrap tokens can have can be had
+abbrev pub bootstrapper_words : Text → List Text
+bootstrapper_words group = any_group ∷ that_group group ∷ any_bootstrapper
+    ∷ that_bootstrapper group ∷ []
+
 -- the words by which a user or a group can be had
 abbrev pub AreHadBy : Who → List Text → Type 0
 AreHadBy (AsUser user given) ws =
@@ -66,7 +89,8 @@ AreHadBy (AsUser user given) ws =
     ⊎ ((namespace name : Text)
     × ((n m : Text) → IsAccountNamed (AsUser user given) n m ↔ ((n ≡ namespace) × (m ≡ name)))
     × (ws ≡ account_words user namespace name))
-AreHadBy (AsMember group) ws = ws ≡ any_group ∷ that_group group ∷ []
+AreHadBy (AsMember group) ws = ((¬ IsBootstrapper group) × (ws ≡ group_words group))
+    ⊎ (IsBootstrapper group × (ws ≡ bootstrapper_words group))
 
 -- the second mark and then the name; without a name, the first mark alone
 abbrev pub chosen_word : ℕ → ℕ → Option Text → Text
@@ -82,6 +106,11 @@ LetsName names.Own rule (Some name) = Contains rule.resource_names name
 LetsName names.Any rule None = Unit {0}
 LetsName _ rule _ = ⊥
 
+-- requests in the namespace of bootstrap tokens count for a rule that counts in `home`
+abbrev pub CountsAtKubeSystem : Counts → Option Text → Type 0
+CountsAtKubeSystem counts None = Unit {0}
+CountsAtKubeSystem counts (Some home) = CountsThere counts home × (home ≡ kube_system)
+
 -- the word for the users, groups or service accounts that a row takes over by a rule that counts in
 -- `home`: those with that name, or with any name if there is none
 abbrev pub IsWordFor : Over → Counts → Option Text → Option Text → Text → Type 0
@@ -89,11 +118,15 @@ IsWordFor over.Users counts None None w = w ≡ any_user
 IsWordFor over.Users counts None (Some name) w = w ≡ that_user name
 IsWordFor over.Groups counts None None w = w ≡ any_group
 IsWordFor over.Groups counts None (Some name) w = w ≡ that_group name
+IsWordFor over.Bootstrappers counts home name w = (w ≡ bootstrap_word name)
+    × CountsAtKubeSystem counts home
 IsWordFor over.Accounts counts None None w = w ≡ any_account
 IsWordFor over.Accounts counts None (Some name) w = w ≡ any_account_named name
-IsWordFor over.Accounts counted.InNamespaces (Some home) None w = w ≡ any_account_of home
-IsWordFor over.Accounts counted.InNamespaces (Some home) (Some name) w =
-    (w ≡ that_account (account_user home name)) × IsPart home × IsPart name
+IsWordFor over.Accounts counts (Some home) None w = (w ≡ any_account_of home)
+    × CountsThere counts home
+IsWordFor over.Accounts counts (Some home) (Some name) w =
+    (w ≡ that_account (account_user home name)) × (IsPart home × IsPart name)
+    × CountsThere counts home
 IsWordFor _ counts home name w = ⊥
 
 -- a rule with this takeover takes the word if the rule counts in `home`, which is a namespace or

@@ -1,25 +1,55 @@
 //! The names of roles that rules let one bind. If a node can bind a role, but not every role of the
-//! scope, it has a rule that is limited to names and lists this role's name. So roles with other
-//! names needn't be nodes.
+//! scope, it has a rule that is limited to names and lists this role's name, or one that lets it
+//! bind each Role and not each cluster role. So without such a rule, roles with other names needn't
+//! be nodes.
 
-ghost use Rattle.std.specs.Prelude.{◌⊎◌, ◌↔◌, Any, Contains, IfOk, IsTrue, OnOk};
+ghost use Rattle.std.specs.Prelude.{◌≡◌, ◌⊎◌, ◌↔◌, [], Any, Contains, IfOk, IsTrue, OnOk};
+ghost use Rattle.rbac_terms.specs.Matching.{RuleAllows};
+ghost use Rattle.rbac_terms.specs.Targets.{Resource};
 ghost use Rattle.rbac_terms.specs.Text.{Text};
 ghost use Rattle.rbac_model.specs.Policies.{IsPolicy};
-ghost use Rattle.rbac_paths.specs.BoundNames.{AreBoundNames, BindsNamed};
+ghost use Rattle.rbac_paths.specs.BoundNames.{AreBoundNames, BindsEach, BindsEachRole, BindsNamed, IsBoundName};
+ghost use Rattle.rbac_paths.specs.BoundNames.{SomeRule};
 ghost use Rattle.rbac_paths.specs.Rows.{AreOfStep, MatchesRow};
 ghost use Rattle.rbac_paths.specs.SharedWords.{AddsWhere};
 ghost use Rattle.rbac_paths.specs.Steps.{table};
 ghost use Rattle.rbac_steps.specs.declared.steps.Step.TheVariants.{Bind};
 
-use crate::rows::{WordRow, rows_of};
+use crate::rows::{WordRow, has_name, rows_of};
 use rbac_model::Policy;
 use rbac_steps::Step;
-use rbac_terms::{Rule, Word};
+use rbac_terms::{ClusterRole, Role, Rule, Word, group_matches, resource_matches, verb_matches};
 use std::alloc::{AllocError, Global};
 
-/// The object names of all rules of this policy that let one bind roles, in byte order, each once.
+/// The object names of all rules of this policy that let one bind roles; and the names of all Roles,
+/// if a rule lets one bind each Role. In byte order, each once.
 pub(crate) fn bound_names(alloc: Global, policy: &Policy) -> Result<Vec<Word>, AllocError>
     ensures names { IfOk result (λ names. AreBoundNames policy.now.held names.items) }
+    ensures policy { OnOk result (IsPolicy policy.now) }
+{
+    let mut names = all_bound(alloc, policy)?;
+    names.sort_unstable();
+    names.dedup();
+    Ok(names)
+}
+
+// The same names, in any order and with repeats.
+fn all_bound(alloc: Global, policy: &Policy) -> Result<Vec<Word>, AllocError>
+    ensures names { IfOk result (λ names. (name : Text)
+        → Contains names.items name ↔ IsBoundName policy.now.held name) }
+    ensures policy { OnOk result (IsPolicy policy.now) }
+{
+    let mut names = names_in_rules(alloc, policy)?;
+    if some_binds_each_role(alloc, policy)? {
+        add_role_names(alloc, policy.objects().roles(), &mut names)?;
+    }
+    Ok(names)
+}
+
+// The object names of all rules of this policy that let one bind roles, in any order.
+fn names_in_rules(alloc: Global, policy: &Policy) -> Result<Vec<Word>, AllocError>
+    ensures names { IfOk result (λ names. (name : Text)
+        → Contains names.items name ↔ SomeRule (λ rule. BindsNamed rule name) policy.now.held) }
     ensures policy { OnOk result (IsPolicy policy.now) }
 {
     let rows = rows_of(alloc, Step::Bind)?;
@@ -30,10 +60,115 @@ pub(crate) fn bound_names(alloc: Global, policy: &Policy) -> Result<Vec<Word>, A
     for role in policy.objects().cluster_roles() {
         add_names(rows.as_slice(), role.rules.as_slice(), &mut names)?;
     }
-    names.sort_unstable();
-    names.dedup();
     Ok(names)
 }
+
+// Adds the names of these Roles.
+fn add_role_names(alloc: Global, roles: &[Role], names: &mut Vec<Word>) -> Result<(), AllocError>
+    ensures { OnOk result (AddsWhere (λ name. Any (λ role. role.name ≡ name) roles.now)
+        names.old.items names.new.items) }
+{
+    for role in roles {
+        add_role_name(alloc, role, names)?;
+    }
+    Ok(())
+}
+
+// Adds the name of this Role.
+fn add_role_name(alloc: Global, role: &Role, names: &mut Vec<Word>) -> Result<(), AllocError>
+    ensures { OnOk result (AddsWhere (λ name. role.now.name ≡ name)
+        names.old.items names.new.items) }
+{
+    names.push(Word::from_slice(alloc, role.name.as_bytes())?)?;
+    Ok(())
+}
+
+// Whether some rule of this policy lets one bind each Role, and not each cluster role.
+fn some_binds_each_role(alloc: Global, policy: &Policy) -> Result<bool, AllocError>
+    ensures { IfOk result (λ some. IsTrue some ↔ SomeRule BindsEachRole policy.now.held) }
+{
+    let verb = Word::from_slice(alloc, BIND)?;
+    let group = Word::from_slice(alloc, GROUP)?;
+    let roles = Word::from_slice(alloc, ROLES)?;
+    let cluster_roles = Word::from_slice(alloc, CLUSTER_ROLES)?;
+    let bind = BindWords {
+        verb: &verb,
+        group: &group,
+        roles: &roles,
+        cluster_roles: &cluster_roles,
+    };
+    Ok(some_rule_binds(policy, bind))
+}
+
+// Whether some rule of this policy lets one bind each Role, and not each cluster role.
+fn some_rule_binds(policy: &Policy, bind: BindWords<'_>) -> bool
+    ensures { IsTrue result ↔ SomeRule (BindsEach bind.entry) policy.now.held }
+{
+    some_role_binds(policy.objects().roles(), bind)
+        || some_cluster_role_binds(policy.objects().cluster_roles(), bind)
+}
+
+// Whether some rule of these Roles lets one bind each Role, and not each cluster role.
+fn some_role_binds(roles: &[Role], bind: BindWords<'_>) -> bool
+    ensures { IsTrue result ↔ Any (λ role. Any (BindsEach bind.entry) role.rules) roles.now }
+{
+    roles
+        .iter()
+        .any(|role| some_binds(bind, role.rules.as_slice()))
+}
+
+// Whether some rule of these cluster roles lets one bind each Role, and not each cluster role.
+fn some_cluster_role_binds(roles: &[ClusterRole], bind: BindWords<'_>) -> bool
+    ensures { IsTrue result ↔ Any (λ role. Any (BindsEach bind.entry) role.rules) roles.now }
+{
+    roles
+        .iter()
+        .any(|role| some_binds(bind, role.rules.as_slice()))
+}
+
+// The words of requests to bind: the verb, the API group, and the resources Roles and cluster roles.
+#[derive(Clone, Copy)]
+struct BindWords<'a> {
+    verb: &'a Word,
+    group: &'a Word,
+    roles: &'a Word,
+    cluster_roles: &'a Word,
+}
+
+// Whether one of these rules lets one bind each Role, and not each cluster role.
+fn some_binds(bind: BindWords<'_>, rules: &[Rule]) -> bool
+    ensures { IsTrue result ↔ Any (BindsEach bind.entry) rules.now }
+{
+    rules.iter().any(|rule| binds_each_role(bind, rule))
+}
+
+// Whether the rule lets one bind each Role, and not each cluster role.
+#[tactic(auto, unfolding(crate::specs::BoundNames::BindsEach))]
+fn binds_each_role(bind: BindWords<'_>, rule: &Rule) -> bool
+    ensures { IsTrue result ↔ BindsEach bind.entry rule.now }
+{
+    binds_any(bind, bind.roles, rule) && !binds_any(bind, bind.cluster_roles, rule)
+}
+
+// Whether the rule lets one bind roles of this kind, whatever their names.
+fn binds_any(bind: BindWords<'_>, kind: &Word, rule: &Rule) -> bool
+    ensures { IsTrue result
+        ↔ RuleAllows rule.now bind.entry.verb.now (Resource bind.entry.group.now kind.now []) }
+{
+    verb_matches(rule, bind.verb)
+        && group_matches(rule, bind.group)
+        && resource_matches(rule, kind)
+        && has_name(rule, b"")
+}
+
+// The verb of requests to bind, the API group of roles, and their resources.
+const BIND: &[u8] = b"bind";
+
+const GROUP: &[u8] = b"rbac.authorization.k8s.io";
+
+const ROLES: &[u8] = b"roles";
+
+const CLUSTER_ROLES: &[u8] = b"clusterroles";
 
 // Adds the object names of the rules that let one bind roles.
 fn add_names(rows: &[WordRow], rules: &[Rule], names: &mut Vec<Word>) -> Result<(), AllocError>

@@ -5,6 +5,8 @@ ghost use Rattle.rbac_model.specs.Holders.{IsKeyFor};
 ghost use Rattle.rbac_model.specs.Policies.{IsPolicy, PolicyView};
 ghost use Rattle.rbac_paths.specs.Access.{AccessView};
 ghost use Rattle.rbac_paths.specs.Agreement.{AgreeOn};
+ghost use Rattle.rbac_paths.specs.Following.{LeadBack, LeadOn};
+ghost use Rattle.rbac_paths.specs.Nodes.{Somebody};
 ghost use Rattle.rbac_paths.specs.Paths.{ArePathsOf, PathView};
 ghost use Rattle.rbac_paths.specs.Powers.{ArePowers, PowerView};
 ghost use Rattle.rbac_paths.specs.Principals.{AreToldByKeys};
@@ -53,4 +55,19 @@ pub fn paths_begin_with_powers()
         (who : Who) (paths : List PathView) → IsPolicy p → ArePowers p powers
         → ¬ Any (λ x. IsKeyFor who x.who) powers
         → ArePathsOf p principals steps who paths → paths ≡ [] }
+{}
+
+/// The node before each path is the one asked about, or has a path with one step less. So whoever
+/// follows the paths from node to node gets to the one asked about (own).
+pub fn paths_lead_back()
+    ensures { (p : PolicyView) (principals : List Who) (steps : List Step) (who : Who)
+        (paths : List PathView) → ArePathsOf p principals steps who paths
+        → LeadBack (Somebody who) paths }
+{}
+
+/// The node after each way that has a step has a way with one step less. So whoever follows the
+/// ways from node to node gets to one that allows the request (own).
+pub fn ways_lead_on()
+    ensures { (p : PolicyView) (principals : List Who) (steps : List Step) (asked : AccessView)
+        (ways : List WayView) → AreWaysTo p principals steps asked ways → LeadOn ways }
 {}

@@ -37,7 +37,8 @@ pub use all_paths::{Path, paths};
 pub use all_steps::powers;
 pub use all_ways::{Next, Way, ways_to};
 pub use laws::{
-    paths_are_one, paths_begin_with_powers, powers_are_one, ways_agree_with_paths, ways_are_one,
+    paths_are_one, paths_begin_with_powers, paths_lead_back, powers_are_one, ways_agree_with_paths,
+    ways_are_one, ways_lead_on,
 };
 pub use line::put_power;
 pub use node::Node;

@@ -12,7 +12,8 @@ ghost use Rattle.rbac_paths.specs.Asked.{RowAsks};
 ghost use Rattle.rbac_paths.specs.Joints.{MatchesOverOthers};
 ghost use Rattle.rbac_paths.specs.Nodes.{node_of};
 ghost use Rattle.rbac_paths.specs.Rows.{AddsRow, AreOfStep, HasRowName, HasRowResource, MatchesRow, row_view};
-ghost use Rattle.rbac_paths.specs.Steps.{AllowsRow, CountsIn, asked_in, table};
+ghost use Rattle.rbac_paths.specs.Steps.{AllowsRow, CountsIn, CountsThere, asked_in};
+ghost use Rattle.rbac_paths.specs.Steps.{kube_system, table};
 ghost use Rattle.rbac_paths.specs.Takeovers.{takeover_of};
 ghost use Rattle.rbac_paths.specs.Taking.{IsOver, RowTakes};
 
@@ -21,7 +22,8 @@ use crate::node::Node;
 use crate::table::{Counts, Names, Over, Row, TABLE};
 use crate::takeover::{Takeover, is_over_nobody};
 use crate::taking::{
-    Asked, for_account, for_cluster_role, for_everything, for_group, for_role, for_user,
+    Asked, KUBE_SYSTEM, for_account, for_bootstrapper, for_cluster_role, for_everything,
+    for_everything_in_namespace, for_group, for_role, for_user,
 };
 use rbac_steps::Step;
 use rbac_terms::{Rule, Word, Words, group_matches, resource_matches, verb_matches};
@@ -127,7 +129,7 @@ impl WordRow {
     {
         match namespace {
             None => true,
-            Some(namespace) => self.counts == Counts::InNamespaces && !namespace.is_empty(),
+            Some(namespace) => counts_there(self.counts, namespace.as_bytes()),
         }
     }
 
@@ -201,10 +203,13 @@ impl WordRow {
         match self.over {
             Over::Users => for_user(node),
             Over::Groups => for_group(node),
+            Over::Bootstrappers => for_bootstrapper(node),
             Over::Accounts => for_account(node),
             Over::Everything => for_everything(self.counts, node),
+            Over::EverythingInNamespace => for_everything_in_namespace(node),
             Over::ClusterRoles => for_cluster_role(node),
             Over::Roles => for_role(node),
+            Over::Nothing => None,
         }
     }
 
@@ -216,11 +221,7 @@ impl WordRow {
     {
         match home {
             None => true,
-            Some(own) => {
-                self.counts == Counts::InNamespaces
-                    && !namespace.is_empty()
-                    && own.as_bytes() == namespace
-            }
+            Some(own) => own.as_bytes() == namespace && counts_there(self.counts, namespace),
         }
     }
 
@@ -286,6 +287,24 @@ impl WordRow {
             Names::Own | Names::Any => true,
             Names::None => has_name(rule, b""),
         }
+    }
+}
+
+// Whether this is the namespace of bootstrap tokens.
+pub(crate) fn is_kube_system(namespace: &[u8]) -> bool
+    ensures { IsTrue result ↔ (namespace.now ≡ kube_system) }
+{
+    namespace == KUBE_SYSTEM
+}
+
+// Whether rows that count there count in this namespace.
+pub(crate) fn counts_there(counts: Counts, namespace: &[u8]) -> bool
+    ensures { IsTrue result ↔ CountsThere counts namespace.now }
+{
+    match counts {
+        Counts::ClusterWide => false,
+        Counts::InNamespaces => !namespace.is_empty(),
+        Counts::InKubeSystem => is_kube_system(namespace),
     }
 }
 

@@ -69,12 +69,12 @@ pub(crate) fn some_is_over_nobody(all: &[Takeover]) -> bool
     all.iter().any(|takeover| is_over_nobody(takeover.over))
 }
 
-/// Whether this is roles or everything, and not users, groups or service accounts.
+/// Whether this is roles or everything, and not users, groups, service accounts or nothing.
 pub(crate) fn is_over_nobody(over: Over) -> bool
     ensures { IsTrue result ↔ IsOverNobody over }
 {
     match over {
-        Over::Users | Over::Groups | Over::Accounts => false,
-        Over::Everything | Over::ClusterRoles | Over::Roles => true,
+        Over::Users | Over::Groups | Over::Bootstrappers | Over::Accounts | Over::Nothing => false,
+        Over::Everything | Over::EverythingInNamespace | Over::ClusterRoles | Over::Roles => true,
     }
 }

@@ -2,10 +2,11 @@
 
 ghost use Rattle.std.specs.Prelude.{◌≡◌, ◌↔◌, IsTrue, MatchOption};
 ghost use Rattle.std.specs.Option.{option_copied};
-ghost use Rattle.rbac_terms.specs.Text.{Text};
-ghost use Rattle.rbac_paths.specs.Asked.{Asks, IsAnyUser};
+ghost use Rattle.rbac_terms.specs.Text.{BeginsWith, Text};
+ghost use Rattle.rbac_paths.specs.Asked.{Asks, IsAnyUser, IsBootstrapperGroup};
 ghost use Rattle.rbac_paths.specs.Nodes.{IsAccountNamed, Somebody, node_of};
-ghost use Rattle.rbac_paths.specs.Taking.{IsOver, scope_namespace};
+ghost use Rattle.rbac_paths.specs.Steps.{kube_system};
+ghost use Rattle.rbac_paths.specs.Taking.{IsBootstrapper, IsOver, scope_namespace};
 ghost use Rattle.rbac_paths.specs.declared.table.Counts.{Counts};
 ghost use Rattle.rbac_paths.specs.declared.table.Over.TheVariants as over;
 
@@ -58,6 +59,20 @@ pub(crate) fn for_group(node: Node<'_>) -> Option<Asked<'_>>
     }
 }
 
+// The namespace and the name for a group that bootstrap tokens can have; `None` for any other node.
+pub(crate) fn for_bootstrapper(node: Node<'_>) -> Option<Asked<'_>>
+    ensures { (counts : Counts)
+        → Asks (IsOver over.Bootstrappers counts (node_of node.entry)) result }
+{
+    match node {
+        Node::Somebody(who) if is_bootstrapper(who) => Some(Asked {
+            namespace: KUBE_SYSTEM,
+            own: who.name(),
+        }),
+        _ => None,
+    }
+}
+
 // The namespace and the name for a service account; `None` for any other node.
 pub(crate) fn for_account(node: Node<'_>) -> Option<Asked<'_>>
     ensures { (counts : Counts) → Asks (IsOver over.Accounts counts (node_of node.entry)) result }
@@ -83,6 +98,21 @@ pub(crate) fn for_everything(counts: Counts, node: Node<'_>) -> Option<Asked<'_>
                 own: b"",
             })
         }
+        _ => None,
+    }
+}
+
+// The namespace and the name for everything in a namespace, which has no name; `None` for any other
+// node.
+pub(crate) fn for_everything_in_namespace(node: Node<'_>) -> Option<Asked<'_>>
+    ensures { (counts : Counts)
+        → Asks (IsOver over.EverythingInNamespace counts (node_of node.entry)) result }
+{
+    match node {
+        Node::Everything(Some(namespace)) => Some(Asked {
+            namespace: namespace.as_bytes(),
+            own: b"",
+        }),
         _ => None,
     }
 }
@@ -131,6 +161,27 @@ pub(crate) fn is_user(who: &Principal) -> bool
     who.key().as_bytes().first() == Some(&b'u')
 }
 
+// Whether this is a group that bootstrap tokens can have.
+pub(crate) fn is_bootstrapper(who: &Principal) -> bool
+    ensures { IsTrue result ↔ IsBootstrapperGroup who.now }
+{
+    !is_user(who) && is_bootstrap_group(who.name())
+}
+
+// Whether bootstrap tokens can have the group with this name.
+fn is_bootstrap_group(group: &[u8]) -> bool
+    ensures { IsTrue result ↔ IsBootstrapper group.now }
+{
+    group == BOOTSTRAPPERS || begins_with(group, BOOTSTRAPPERS_OF)
+}
+
+// Whether the text begins with the prefix.
+fn begins_with(text: &[u8], prefix: &[u8]) -> bool
+    ensures { IsTrue result ↔ BeginsWith text.now prefix.now }
+{
+    text.starts_with(prefix)
+}
+
 // The namespace and the name of a service account; `None` if this is no service account.
 pub(crate) fn account_parts(who: &Principal) -> Option<(&[u8], &[u8])>
     ensures { MatchOption result
@@ -142,6 +193,14 @@ pub(crate) fn account_parts(who: &Principal) -> Option<(&[u8], &[u8])>
     let parts = who.name().get(ACCOUNT + namespace.len() + 1..)?;
     Some((namespace, parts))
 }
+
+// The group that each bootstrap token has, and what the names of its other groups begin with.
+const BOOTSTRAPPERS: &[u8] = b"system:bootstrappers";
+
+const BOOTSTRAPPERS_OF: &[u8] = b"system:bootstrappers:";
+
+// The namespace of bootstrap tokens.
+pub(crate) const KUBE_SYSTEM: &[u8] = b"kube-system";
 
 // The length of the prefix of a service account's user name, in bytes.
 const ACCOUNT: usize = b"system:serviceaccount:".len();

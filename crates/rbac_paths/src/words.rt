@@ -7,20 +7,23 @@ ghost use Rattle.std.specs.Prelude.{None, OnOk, Some, length, map};
 ghost use Rattle.std.specs.Option.{option_copied};
 ghost use Rattle.rbac_terms.specs.Principals.{IsPart};
 ghost use Rattle.rbac_terms.specs.Text.{Text};
-ghost use Rattle.rbac_paths.specs.SharedWords.{AddsWhere, AreHadBy, GrantTakesWord, IsWordFor};
+ghost use Rattle.rbac_paths.specs.Asked.{IsAnyUser};
+ghost use Rattle.rbac_paths.specs.SharedWords.{AddsWhere, AreHadBy, CountsAtKubeSystem};
+ghost use Rattle.rbac_paths.specs.SharedWords.{GrantTakesWord, IsWordFor};
 ghost use Rattle.rbac_paths.specs.SharedWords.{LetsName, LetsWord, StepTakesWord, TakeWord};
 ghost use Rattle.rbac_paths.specs.SharedWords.{chosen_word};
+ghost use Rattle.rbac_paths.specs.Steps.{CountsThere};
 ghost use Rattle.rbac_paths.specs.Takeovers.{HaveTakeovers};
-ghost use Rattle.rbac_paths.specs.declared.table.Counts.TheVariants as counted;
+ghost use Rattle.rbac_paths.specs.declared.table.Counts.{Counts};
 ghost use Rattle.rbac_steps.specs.declared.steps.Step.{Step};
 ghost use Rattle.rbac_paths.specs.declared.table.Over.TheVariants as over;
 
 use crate::holding::Holding;
-use crate::rows::has_name;
+use crate::rows::{counts_there, has_name, is_kube_system};
 use crate::rule_takeovers::RuleTakeovers;
-use crate::table::{Counts, Names, Over};
+use crate::table::{Names, Over};
 use crate::takeover::{Takeover, takeovers_of};
-use crate::taking::{account_parts, is_user};
+use crate::taking::{account_parts, is_bootstrapper, is_user};
 use crate::told::StepRows;
 use rbac_model::Policy;
 use rbac_terms::{Principal, Rule, Word, Words, account_user};
@@ -36,10 +39,15 @@ const ACCOUNT_NAMED: u8 = b'C';
 
 const THAT_ACCOUNT: u8 = b'D';
 
-// The marks of words for groups: any group, and one group.
+// The marks of words for groups: any group, and one group; and for groups that bootstrap tokens can
+// have: any of them, and one of them.
 const ANY_GROUP: u8 = b'G';
 
 const THAT_GROUP: u8 = b'H';
+
+const ANY_BOOTSTRAPPER: u8 = b'I';
+
+const THAT_BOOTSTRAPPER: u8 = b'J';
 
 // The marks of words for users who are no service accounts: any user, and one user.
 const ANY_USER: u8 = b'U';
@@ -64,11 +72,28 @@ pub(crate) fn words_of_whom(alloc: Global, who: &Principal) -> Result<Words, All
             alloc,
             &[(ANY_USER, b"".as_slice()), (THAT_USER, who.name())],
         ),
-        None => marked(
-            alloc,
-            &[(ANY_GROUP, b"".as_slice()), (THAT_GROUP, who.name())],
-        ),
+        None => words_of_group(alloc, who),
     }
+}
+
+// The words by which a group can be had.
+fn words_of_group(alloc: Global, group: &Principal) -> Result<Words, AllocError>
+    requires { ¬ IsAnyUser group.now }
+    ensures { IfOk result (AreHadBy group.now) }
+{
+    let name = group.name();
+    if is_bootstrapper(group) {
+        return marked(
+            alloc,
+            &[
+                (ANY_GROUP, b"".as_slice()),
+                (THAT_GROUP, name),
+                (ANY_BOOTSTRAPPER, b"".as_slice()),
+                (THAT_BOOTSTRAPPER, name),
+            ],
+        );
+    }
+    marked(alloc, &[(ANY_GROUP, b"".as_slice()), (THAT_GROUP, name)])
 }
 
 // For each of these parts, the word that has the mark and then the text.
@@ -266,11 +291,28 @@ impl Takeover {
         match (self.over, home) {
             (Over::Users, None) => Ok(Some(chosen(alloc, (ANY_USER, THAT_USER), name)?)),
             (Over::Groups, None) => Ok(Some(chosen(alloc, (ANY_GROUP, THAT_GROUP), name)?)),
+            (Over::Bootstrappers, home) if self.counts_at_kube_system(home) => {
+                let marks = (ANY_BOOTSTRAPPER, THAT_BOOTSTRAPPER);
+                Ok(Some(chosen(alloc, marks, name)?))
+            }
             (Over::Accounts, None) => Ok(Some(chosen(alloc, (ANY_ACCOUNT, ACCOUNT_NAMED), name)?)),
-            (Over::Accounts, Some(home)) if self.counts == Counts::InNamespaces => {
+            (Over::Accounts, Some(home)) if counts_there(self.counts, home.as_bytes()) => {
                 account_word(alloc, home, name)
             }
             _ => Ok(None),
+        }
+    }
+
+    // Whether requests in the namespace of bootstrap tokens count for a rule that counts in `home`.
+    fn counts_at_kube_system(&self, home: Option<&Word>) -> bool
+        ensures { IsTrue result ↔ CountsAtKubeSystem self.now.counts (option_copied home.entry) }
+    {
+        match home {
+            None => true,
+            Some(home) => {
+                let namespace = home.as_bytes();
+                counts_there(self.counts, namespace) && is_kube_system(namespace)
+            }
         }
     }
 }
@@ -298,10 +340,11 @@ fn chosen(alloc: Global, marks: (u8, u8), name: Option<&Word>) -> Result<Word, A
 // The word for the service account of this name in this namespace, or, if there is none, for any
 // service account of the namespace. `None` if no service account can have these names.
 fn account_word(alloc: Global, home: &Word, name: Option<&Word>) -> Result<Option<Word>, AllocError>
-    ensures { IfOk result (λ o. MatchOption o
-        ((w : Text) → ¬ IsWordFor over.Accounts counted.InNamespaces
+    ensures { (counts : Counts) → CountsThere counts home.now
+        → IfOk result (λ o. MatchOption o
+        ((w : Text) → ¬ IsWordFor over.Accounts counts
         (Some home.now) (option_copied name.entry) w)
-        (λ word. (w : Text) → IsWordFor over.Accounts counted.InNamespaces
+        (λ word. (w : Text) → IsWordFor over.Accounts counts
         (Some home.now) (option_copied name.entry) w ↔ (w ≡ word))) }
 {
     match name {

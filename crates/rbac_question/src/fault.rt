@@ -9,7 +9,7 @@ use std::fmt;
 
 // The text of U8, which lists the words of all steps.
 const BAD_STEP: &str = "U8 steps are impersonate, token, run, exec, secrets, nodes, bind, \
-    escalate, certificates, webhooks";
+    escalate, certificates, webhooks, apiservices, bootstrap, volumes, namespaces";
 
 // The text of U9, which states which options go together.
 const BAD_INDIRECT: &str = "U9 --indirect excludes --anywhere, --any-name, --every and --why; \

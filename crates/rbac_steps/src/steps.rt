@@ -26,13 +26,21 @@ pub enum Step {
     Escalate,
     /// Approves certificates, by which one can sign in as anyone.
     Certificates,
-    /// Changes or reads what others write, through admission webhooks.
+    /// Changes or reads what others write, through admission webhooks and policies.
     Webhooks,
+    /// Answers requests in the API server's place, also those that tell it who asks.
+    ApiServices,
+    /// Signs in by a bootstrap token that it writes itself.
+    Bootstrap,
+    /// Makes volumes, which may be directories of a Kubernetes node.
+    Volumes,
+    /// Changes the labels of namespaces, which choose how much a pod may do on its Kubernetes node.
+    Namespaces,
 }
 
 impl Step {
     /// All steps, in the order of the table.
-    pub const ALL: [Step; 10] = [
+    pub const ALL: [Step; 14] = [
         Step::Impersonate,
         Step::Token,
         Step::Run,
@@ -43,6 +51,10 @@ impl Step {
         Step::Escalate,
         Step::Certificates,
         Step::Webhooks,
+        Step::ApiServices,
+        Step::Bootstrap,
+        Step::Volumes,
+        Step::Namespaces,
     ];
 
     /// All steps, in the order of the table (own).
@@ -68,6 +80,10 @@ impl Step {
             Step::Escalate => b"escalate",
             Step::Certificates => b"certificates",
             Step::Webhooks => b"webhooks",
+            Step::ApiServices => b"apiservices",
+            Step::Bootstrap => b"bootstrap",
+            Step::Volumes => b"volumes",
+            Step::Namespaces => b"namespaces",
         }
     }
 }

@@ -1,7 +1,7 @@
 use Rattle.std.proofs.Common.{[], List, take}
 use Rattle.rbac_terms.specs.Text.{Text}
 use Rattle.rbac_paths.proofs.BoundNames.{AddsOfClusterRoles, AddsOfRoles}
-use Rattle.rbac_paths.proofs.bound_names.bound_names.Given as goal
+use Rattle.rbac_paths.proofs.bound_names.names_in_rules.Given as goal
 
 abbrev pub invariant-loop-role : goal.invariant-loop-role
 invariant-loop-role l = AddsOfRoles (take l.role-index l.role-items) [] l.names.items

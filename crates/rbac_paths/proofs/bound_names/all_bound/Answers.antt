@@ -1,0 +1,23 @@
+use Rattle.std.proofs.Common.{◌≡◌, ◌∙◌, Any, List, ap, subst, sym}
+use Rattle.std.proofs.lemmas.Bool.{false≢true}
+use Rattle.rbac_terms.specs.declared.granting.Role.{Role}
+use Rattle.rbac_model.specs.Policies.{Held}
+use Rattle.rbac_paths.specs.SharedWords.{AddsWhere}
+use Rattle.rbac_paths.proofs.BoundNames.{with_roles, without_roles}
+use Rattle.rbac_paths.proofs.bound_names.all_bound.Goals as goal
+use Rattle.rbac_paths.proofs.bound_names.all_bound.Goals.{then-branch+in_ok-add_role_names, else-branch}
+
+pub returns-clause-names : goal.returns-clause-names
+returns-clause-names c =
+    let h = c.args.policy.now.held in
+    let names = c.in_ok-names.names.items in
+    let in_rules = c.in_ok-names.ensures.names in
+    elim c.if-branch.branch [
+      | then-branch+in_ok-add_role_names w ↦
+          (let new = w.add_role_names.new.names.items in
+          let roles = w.roles.ensures.roles ∙ ap (λ (held : Held). held.roles) w.objects.ensures.held in
+          let adds = subst (λ (rs : List Role). AddsWhere (λ name. Any (λ role. role.name ≡ name) rs) names new) roles w.in_ok-add_role_names.ensures in
+          rw w.names-is (with_roles h names in_rules (c.in_ok-some_binds_each_role.ensures.0 w.if-branch.true) new adds))
+      | else-branch w ↦ rw w.names-is
+          (without_roles h names in_rules (λ some. false≢true (sym w.if-branch.false ∙ c.in_ok-some_binds_each_role.ensures.1 some)))
+    ]
