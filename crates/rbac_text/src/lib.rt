@@ -19,5 +19,5 @@ pub use holder::put_holder;
 pub use holder_why::put_holder_why;
 pub use laws::fields_are_unlike;
 pub use row::{put_binding, put_field_and_tab};
-pub use rule::{put_grant, put_rule};
+pub use rule::{put_grant, put_list, put_rule};
 pub use why::{put_place, put_role, put_why};

@@ -17,8 +17,8 @@ use std::alloc::AllocError;
 const COMMA: u8 = b',';
 
 /// Adds a rule (own): its verbs, API groups, resources, object names and URLs, as five fields
-/// joined by tabs. A list is printed as `[`, its words joined by commas, and `]`; each word as a
-/// field, with commas as `\x2c`. If it runs out of memory, a prefix may have been added.
+/// joined by tabs, each as [`put_list`] has it. If it runs out of memory, a prefix may have been
+/// added.
 pub fn put_rule(line: &mut Vec<u8>, rule: &Rule) -> Result<(), AllocError>
     ensures { OnOk result (line.new.items ≡ line.old.items ++ rule_text rule.now) }
 {
@@ -60,8 +60,9 @@ fn put_list_and_tab(line: &mut Vec<u8>, words: &Words) -> Result<(), AllocError>
     put_tab(line)
 }
 
-// Adds a list of words in brackets.
-fn put_list(line: &mut Vec<u8>, words: &Words) -> Result<(), AllocError>
+/// Adds a list of words as one field (own): `[`, the words joined by commas, and `]`; each word as
+/// a field, with commas as `\x2c`. If it runs out of memory, a prefix may have been added.
+pub fn put_list(line: &mut Vec<u8>, words: &Words) -> Result<(), AllocError>
     ensures { OnOk result (line.new.items ≡ line.old.items ++ list_text words.now) }
 {
     line.push(b'[')?;
