@@ -1,0 +1,4 @@
+pub mod Lacking
+pub mod Members
+pub mod Named
+pub mod Near
