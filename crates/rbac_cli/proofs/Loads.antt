@@ -28,7 +28,7 @@ use Rattle.rbac_cli.specs.declared.outcome.Status.{Status}
 
 -- what is loaded for an action is what it is answered over
 pub over : (a : Action) (inputs : List (List ℕ)) (e : Exports) → AreLoaded a inputs e → IsForAction a e
-over (CanI who quiet why q) inputs (Single l) h = tt
+over (CanI who options q) inputs (Single l) h = tt
 over (WhoCan options q) inputs (Single l) h = tt
 over (WaysTo steps q) inputs (Single l) h = tt
 over (Rules who scope) inputs (Single l) h = tt
@@ -38,7 +38,7 @@ over Powers inputs (Single l) h = tt
 over (Paths who steps) inputs (Single l) h = tt
 over action.Universe inputs (Single l) h = tt
 over (Diff n change) inputs (Single l) h = h
-over (CanI who quiet why q) inputs (Pair x y) h = h
+over (CanI who options q) inputs (Pair x y) h = h
 over (WhoCan options q) inputs (Pair x y) h = h
 over (WaysTo steps q) inputs (Pair x y) h = h
 over (Rules who scope) inputs (Pair x y) h = h
@@ -228,7 +228,7 @@ ended took command inputs e (Err (Write n)) is h = (e, is, h)
 -- what is printed for `diff` is what is printed for the one action that is answered over two policies
 pub of_diff : (P : Action → Type 0) (a : Action) (before after : PolicyView) → IsForAction a (Pair before after) → ((n : ℕ) (change : Change) → P (Diff n change)) → P a
 of_diff P (Diff n change) before after is h = h n change
-of_diff P (CanI who quiet why q) before after is h = absurd is
+of_diff P (CanI who options q) before after is h = absurd is
 of_diff P (WhoCan options q) before after is h = absurd is
 of_diff P (WaysTo steps q) before after is h = absurd is
 of_diff P (Rules who scope) before after is h = absurd is

@@ -51,7 +51,7 @@ use Rattle.rbac_rules.proofs.RuleLists.{one_list as one_rules}
 use Rattle.rbac_cli.proofs.OneHolderLines.{one_holder_lines}
 use Rattle.rbac_cli.proofs.OneMatrixText.{Line, line_of, listed_alike, one_matrix_text}
 use Rattle.rbac_cli.proofs.OneMeant.{one_meant, one_target, one_scope}
-use Rattle.rbac_cli.proofs.OneReason.{one_reason}
+use Rattle.rbac_cli.proofs.OneReason.{one_lacking, one_reason}
 
 -- ---- two of one key with the same groups are named alike
 
@@ -266,13 +266,16 @@ WaysOne = (p : PolicyView) (principals : List Who) (steps : List Step) (asked : 
 module _ (powers_one : PowersOne) (paths_one : PathsOne) (ways_one : WaysOne) where
   pub one_answer : (e : Exports) (action : Action) (text other : List ℕ) (status ending : Status) → Answers e action text status → Answers e action other ending
       → (text ≡ other) × (status ≡ ending)
-  one_answer (Single l) (CanI who quiet why q) text other status ending (inl (a, (r, is, e), s)) (inl (b, (o, are, f), t)) = (
-    e ∙ ap (λ (reason : List ℕ). line_unless quiet (codes "yes") ++ reason) (one_reason l.policy l.catalogue.entries who q r o quiet why is are) ∙ sym f,
+  one_answer (Single l) (CanI who options q) text other status ending (inl (a, (r, is, e), s)) (inl (b, (o, are, f), t)) = (
+    e ∙ ap (λ (reason : List ℕ). line_unless options.quiet (codes "yes") ++ reason) (one_reason l.policy l.catalogue.entries who q r o options.quiet options.why is are) ∙ sym f,
     s ∙ sym t,
   )
-  one_answer (Single l) (CanI who quiet why q) text other status ending (inl a) (inr b) = absurd (not_both l.policy.held l.catalogue.entries who q a.0 b.0)
-  one_answer (Single l) (CanI who quiet why q) text other status ending (inr a) (inl b) = absurd (not_both l.policy.held l.catalogue.entries who q b.0 a.0)
-  one_answer (Single l) (CanI who quiet why q) text other status ending (inr a) (inr b) = (a.1 ∙ sym b.1, a.2 ∙ sym b.2)
+  one_answer (Single l) (CanI who options q) text other status ending (inl a) (inr b) = absurd (not_both l.policy.held l.catalogue.entries who q a.0 b.0)
+  one_answer (Single l) (CanI who options q) text other status ending (inr a) (inl b) = absurd (not_both l.policy.held l.catalogue.entries who q b.0 a.0)
+  one_answer (Single l) (CanI who options q) text other status ending (inr (a, (r, is, e), s)) (inr (b, (o, are, f), t)) = (
+    e ∙ ap (λ (lacking : List ℕ). line_unless options.quiet (codes "no") ++ lacking) (one_lacking l.policy l.catalogue.entries who q r o options.quiet options.why_not is are) ∙ sym f,
+    s ∙ sym t,
+  )
   one_answer (Single l) (WhoCan options q) text other status ending a b = one_holders_text l options q text other status ending a b
   one_answer (Single l) (WaysTo steps q) text other status ending (t, n, meant, (xs, are, e, s)) (u, m, means, (ys, those, f, z)) =
       let same = one_meant l.catalogue.entries q t u n m meant means in
@@ -296,7 +299,7 @@ module _ (powers_one : PowersOne) (paths_one : PathsOne) (ways_one : WaysOne) wh
   one_answer (Pair before after) (Diff n change) text other status ending (xs, are, e, s) (ys, those, f, t) =
       let one = one_changes before after xs ys are those in
       (e ∙ ap changes_text one ∙ sym f, s ∙ ap changes_status one ∙ sym t)
-  one_answer (Pair before after) (CanI who quiet why q) text other status ending a b = absurd a
+  one_answer (Pair before after) (CanI who options q) text other status ending a b = absurd a
   one_answer (Pair before after) (WhoCan options q) text other status ending a b = absurd a
   one_answer (Pair before after) (WaysTo steps q) text other status ending a b = absurd a
   one_answer (Pair before after) (Rules who scope) text other status ending a b = absurd a

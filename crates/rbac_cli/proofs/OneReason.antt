@@ -1,5 +1,6 @@
--- A verdict has one reason: the first grant that allows, and its first subject that names the principal.
-use Rattle.std.proofs.Common.{◌≡◌, ◌∙◌, ℕ, Bool, true, false, List, ap, sym, subst}
+-- A verdict has one reason: for a yes the first grant that allows, and its first subject that names the principal; for a no the near grants.
+use Rattle.std.proofs.Common.{◌≡◌, ◌∙◌, ◌↔◌, ℕ, Bool, true, false, List, ap, refl, sym, subst}
+use Rattle.std.specs.List.{flat_map}
 use Rattle.rbac_terms.specs.Text.{Text}
 use Rattle.rbac_terms.specs.Targets.{What}
 use Rattle.rbac_terms.specs.Principals.{Who}
@@ -9,7 +10,12 @@ use Rattle.rbac_model.specs.Policies.{PolicyView, GrantView, GrantAllows, IsWhy}
 use Rattle.rbac_catalogue.specs.declared.entry.Entry.{Entry}
 use Rattle.rbac_question.specs.declared.command.Question.{Question}
 use Rattle.rbac_text.specs.Why.{why_text}
-use Rattle.rbac_cli.specs.Out.{IsWhyText, ComesAfterYes}
+use Rattle.rbac_near.specs.Near.{AreNear}
+use Rattle.rbac_near.specs.NearLines.{near_line}
+use Rattle.rbac_near.specs.declared.near.Near.{Near}
+use Rattle.rbac_near.proofs.OneNear.{one_near}
+use Rattle.rbac_cli.specs.Meant.{IsOutside, request_meant}
+use Rattle.rbac_cli.specs.Out.{IsWhyText, IsWhyNotText, ComesAfterNo, ComesAfterYes}
 use Rattle.rbac_cli.proofs.OneMeant.{one_meant}
 
 module _ (p : PolicyView) (who : Who) (namespace verb : Text) (t : What) (g k : GrantView) (i j : ℕ) (a : IsWhy p who namespace verb t g i) (b : IsWhy p who namespace verb t k j) where
@@ -26,12 +32,33 @@ module _ (p : PolicyView) (who : Who) (namespace verb : Text) (t : What) (g k : 
       ap (λ (x : GrantView). why_text x.binding x.rule.source x.rule.place i) one_grant
       ∙ ap (λ (n : ℕ). why_text k.binding k.rule.source k.rule.place n) one_subject
 
+-- two flags that tell whether the same holds are the same
+same_truth : (a b : Bool) (P : Type 0) → (a ≡ true) ↔ P → (b ≡ true) ↔ P → a ≡ b
+same_truth true true P is are = refl
+same_truth true false P is are = sym (are.1 (is.0 refl))
+same_truth false true P is are = is.1 (are.0 refl)
+same_truth false false P is are = refl
+
 module _ (p : PolicyView) (entries : List Entry) (who : Who) (q : Question) (text other : Text) where
   one_why : IsWhyText p entries who q text → IsWhyText p entries who q other → text ≡ other
   one_why (t, n, meant, (g, i, is, e)) (u, m, means, (k, j, are, d)) =
       let same = one_meant entries q t u n m meant means in
       let here = subst (λ x. IsWhy p who m q.verb x g i) same.0 (subst (λ x. IsWhy p who x q.verb t g i) same.1 is) in
       e ∙ one_line p who m q.verb u g k i j here are ∙ sym d
+
+  one_why_not : IsWhyNotText p entries who q text → IsWhyNotText p entries who q other → text ≡ other
+  one_why_not (t, n, meant, (a, xs, is, are, e)) (u, m, means, (b, ys, has, those, d)) =
+      let same = one_meant entries q t u n m meant means in
+      let one : a ≡ b = same_truth a b (¬ IsOutside entries q u) (subst (λ x. (a ≡ true) ↔ (¬ IsOutside entries q x)) same.0 is) has in
+      let here : AreNear p (request_meant who q u m b) xs =
+      subst (λ x. AreNear p (request_meant who q u m x) xs) one
+      (subst (λ x. AreNear p (request_meant who q u x a) xs) same.1 (subst (λ x. AreNear p (request_meant who q x n a) xs) same.0 are)) in
+      e ∙ ap (λ (found : List Near). flat_map (near_line p) found) (one_near p (request_meant who q u m b) xs ys here those) ∙ sym d
+
+  pub one_lacking : (quiet why_not : Bool) → ComesAfterNo p entries who quiet why_not q text → ComesAfterNo p entries who quiet why_not q other → text ≡ other
+  one_lacking false true a b = one_why_not a b
+  one_lacking false false a b = a ∙ sym b
+  one_lacking true why_not a b = a ∙ sym b
 
   pub one_reason : (quiet why : Bool) → ComesAfterYes p entries who quiet why q text → ComesAfterYes p entries who quiet why q other → text ≡ other
   one_reason false true a b = one_why a b

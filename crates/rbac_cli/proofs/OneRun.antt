@@ -64,7 +64,7 @@ same_universe_fault lists universe.NoMemory g a n b m = absurd (n refl)
 same_universe_fault lists f universe.NoMemory a n b m = absurd (m refl)
 
 lacks_for_one : (e : Exports) (action : Action) (f g : UniverseFault) → LacksUniverse e action f → LacksUniverse e action g → f ≡ g
-lacks_for_one (Single l) (CanI who quiet why q) f g a b = absurd a
+lacks_for_one (Single l) (CanI who options q) f g a b = absurd a
 lacks_for_one (Single l) (WhoCan options q) f g a b = absurd a
 lacks_for_one (Single l) (WaysTo steps q) f g a b = absurd a
 lacks_for_one (Single l) (Rules who scope) f g a b = absurd a
@@ -82,7 +82,7 @@ none_and_some o x none some = cc
 module _ (loads_one : LoadsOne) (no_fault : HasNoFault) (one_fault : HasOneFault) (resolves_one : ResolvesOne) (few_enough : HasNoTooMany) (no_universe_fault : HasNoUniverseFault) (powers_one : PowersOne) (paths_one : PathsOne) (ways_one : WaysOne) where
   -- what has an answer lacks no universe
   not_lacking : (e : Exports) (action : Action) (text : List ℕ) (status : Status) (f : UniverseFault) → Answers e action text status → LacksUniverse e action f → ⊥
-  not_lacking (Single l) (CanI who quiet why q) text status f a b = b
+  not_lacking (Single l) (CanI who options q) text status f a b = b
   not_lacking (Single l) (WhoCan options q) text status f a b = b
   not_lacking (Single l) (WaysTo steps q) text status f a b = b
   not_lacking (Single l) (Rules who scope) text status f a b = b
@@ -114,7 +114,7 @@ module _ (loads_one : LoadsOne) (no_fault : HasNoFault) (one_fault : HasOneFault
       rw (resolves_one _ x v a.0.1 b.0.1, resolves_one _ y w a.1.1 b.1.1) refl
   one_loaded (Diff n change) inputs (Single l) d a b = absurd a
   one_loaded (Diff n change) inputs (Pair x y) (Single m) a b = absurd b
-  one_loaded (CanI who quiet why q) inputs (Single l) (Single m) a b = one_single inputs l m a b
+  one_loaded (CanI who options q) inputs (Single l) (Single m) a b = one_single inputs l m a b
   one_loaded (WhoCan options q) inputs (Single l) (Single m) a b = one_single inputs l m a b
   one_loaded (WaysTo steps q) inputs (Single l) (Single m) a b = one_single inputs l m a b
   one_loaded (Rules who scope) inputs (Single l) (Single m) a b = one_single inputs l m a b
@@ -123,7 +123,7 @@ module _ (loads_one : LoadsOne) (no_fault : HasNoFault) (one_fault : HasOneFault
   one_loaded (Lint only skip) inputs (Single l) (Single m) a b = one_single inputs l m a b
   one_loaded Powers inputs (Single l) (Single m) a b = one_single inputs l m a b
   one_loaded (Paths who steps) inputs (Single l) (Single m) a b = one_single inputs l m a b
-  one_loaded (CanI who quiet why q) inputs (Pair x y) d a b = absurd a
+  one_loaded (CanI who options q) inputs (Pair x y) d a b = absurd a
   one_loaded (WhoCan options q) inputs (Pair x y) d a b = absurd a
   one_loaded (WaysTo steps q) inputs (Pair x y) d a b = absurd a
   one_loaded (Rules who scope) inputs (Pair x y) d a b = absurd a
@@ -132,7 +132,7 @@ module _ (loads_one : LoadsOne) (no_fault : HasNoFault) (one_fault : HasOneFault
   one_loaded (Lint only skip) inputs (Pair x y) d a b = absurd a
   one_loaded Powers inputs (Pair x y) d a b = absurd a
   one_loaded (Paths who steps) inputs (Pair x y) d a b = absurd a
-  one_loaded (CanI who quiet why q) inputs (Single l) (Pair x y) a b = absurd b
+  one_loaded (CanI who options q) inputs (Single l) (Pair x y) a b = absurd b
   one_loaded (WhoCan options q) inputs (Single l) (Pair x y) a b = absurd b
   one_loaded (WaysTo steps q) inputs (Single l) (Pair x y) a b = absurd b
   one_loaded (Rules who scope) inputs (Single l) (Pair x y) a b = absurd b
@@ -146,7 +146,7 @@ module _ (loads_one : LoadsOne) (no_fault : HasNoFault) (one_fault : HasOneFault
   not_refused (Diff n change) inputs (Pair x y) f a (inl h) = side_not_refused _ _ x f a.0 h
   not_refused (Diff n change) inputs (Pair x y) f a (inr h) = side_not_refused _ _ y h.1.0 a.1 h.1.1
   not_refused (Diff n change) inputs (Single l) f a h = a
-  not_refused (CanI who quiet why q) inputs (Single l) f a h = no_fault inputs l f a h
+  not_refused (CanI who options q) inputs (Single l) f a h = no_fault inputs l f a h
   not_refused (WhoCan options q) inputs (Single l) f a h = no_fault inputs l f a h
   not_refused (WaysTo steps q) inputs (Single l) f a h = no_fault inputs l f a h
   not_refused (Rules who scope) inputs (Single l) f a h = no_fault inputs l f a h
@@ -155,7 +155,7 @@ module _ (loads_one : LoadsOne) (no_fault : HasNoFault) (one_fault : HasOneFault
   not_refused (Lint only skip) inputs (Single l) f a h = no_fault inputs l f a h
   not_refused Powers inputs (Single l) f a h = no_fault inputs l f a h
   not_refused (Paths who steps) inputs (Single l) f a h = no_fault inputs l f a h
-  not_refused (CanI who quiet why q) inputs (Pair x y) f a h = a
+  not_refused (CanI who options q) inputs (Pair x y) f a h = a
   not_refused (WhoCan options q) inputs (Pair x y) f a h = a
   not_refused (WaysTo steps q) inputs (Pair x y) f a h = a
   not_refused (Rules who scope) inputs (Pair x y) f a h = a
@@ -171,7 +171,7 @@ module _ (loads_one : LoadsOne) (no_fault : HasNoFault) (one_fault : HasOneFault
   one_refusal (Diff n change) inputs f g (inr a) (inl b) = absurd (side_not_refused _ _ a.0.0 g a.0.1 b)
   one_refusal (Diff n change) inputs f g (inr ((l, is), (own, has, e))) (inr ((m, are), (other, had, d))) =
       e ∙ ap (behind (length (take n inputs))) (one_side_refusal _ _ own other has had) ∙ sym d
-  one_refusal (CanI who quiet why q) inputs f g a b = one_fault inputs f g a b
+  one_refusal (CanI who options q) inputs f g a b = one_fault inputs f g a b
   one_refusal (WhoCan options q) inputs f g a b = one_fault inputs f g a b
   one_refusal (WaysTo steps q) inputs f g a b = one_fault inputs f g a b
   one_refusal (Rules who scope) inputs f g a b = one_fault inputs f g a b

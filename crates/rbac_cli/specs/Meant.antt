@@ -1,6 +1,7 @@
 -- What a question asks for, according to the entries of a catalogue.
 use Rattle.std.specs.Prelude.{◌≡◌, ◌⊎◌, Bool, true, false, List, [], ◌∷◌, ◌++◌}
 use Rattle.rbac_terms.specs.Text.{Text, slash}
+use Rattle.rbac_terms.specs.Principals.{Who}
 use Rattle.rbac_terms.specs.Targets.{What, Resource, Url, group_of, text_of}
 use Rattle.rbac_terms.specs.declared.scope.Scope.{Scope}
 use Rattle.rbac_terms.specs.declared.scope.Scope.TheVariants.{Anywhere, Namespace}
@@ -8,6 +9,7 @@ use Rattle.rbac_catalogue.specs.declared.entry.Entry.{Entry}
 use Rattle.rbac_catalogue.specs.declared.lookup.Found.{Found}
 use Rattle.rbac_catalogue.specs.Lookups.{IsFound}
 use Rattle.rbac_catalogue.specs.Catalogue.{IsClusterOnly}
+use Rattle.rbac_near.specs.Near.{RequestView}
 use Rattle.rbac_index.specs.Requested.{RequestedView, ThisTarget, AnyName}
 use Rattle.rbac_paths.specs.Access.{AccessView}
 use Rattle.rbac_question.specs.declared.asked.AskedFor.{AskedFor}
@@ -50,6 +52,16 @@ IsMeant entries q target namespace = IsTargetMeant entries q.asked target
 abbrev pub access_meant : Question → What → Text → AccessView
 access_meant q target namespace =
     record { namespace = namespace; verb = q.verb; target = target }
+
+-- what somebody asks for by a question that means this target and namespace
+abbrev pub request_meant : Who → Question → What → Text → Bool → RequestView
+request_meant who q target namespace is_namespaced = record {
+  who = who;
+  namespace = namespace;
+  verb = q.verb;
+  target = target;
+  is_namespaced = is_namespaced;
+}
 
 -- what holders are asked for: the target, or with `--any-name` the target whatever its object name
 -- (own)

@@ -32,12 +32,15 @@ use Rattle.rbac_question.specs.declared.command.Action.TheVariants.{Powers, Path
 use Rattle.rbac_question.specs.declared.command.Question.{Question}
 use Rattle.rbac_rules.specs.Effective.{RuleView, AreEffective}
 use Rattle.rbac_index.specs.WhoCan.{AreListedHolders}
+use Rattle.rbac_near.specs.Near.{AreNear}
+use Rattle.rbac_near.specs.NearLines.{near_line}
+use Rattle.rbac_near.specs.declared.near.Near.{Near}
 use Rattle.rbac_cli.specs.HolderLines.{AreHolderLines, joined_lines}
 use Rattle.rbac_cli.specs.declared.exports.Exports.{Exports}
 use Rattle.rbac_cli.specs.declared.exports.Exports.TheVariants.{Single, Pair}
 use Rattle.rbac_cli.specs.MatrixPage.{AreListedRows, matrix_text}
 use Rattle.rbac_cli.specs.Meant.{IsMeant, IsTargetMeant, IsScopeMeant, access_meant}
-use Rattle.rbac_cli.specs.Meant.{requested_meant}
+use Rattle.rbac_cli.specs.Meant.{IsOutside, request_meant, requested_meant}
 use Rattle.rbac_cli.specs.declared.outcome.Status.{Status}
 use Rattle.rbac_cli.specs.declared.outcome.Status.TheVariants.{Zero, One}
 
@@ -78,6 +81,23 @@ abbrev pub ComesAfterYes : PolicyView → List Entry → Who → Bool → Bool �
 ComesAfterYes p entries who false true q text = IsWhyText p entries who q text
 ComesAfterYes p entries who false false q text = text ≡ []
 ComesAfterYes p entries who true why q text = text ≡ []
+
+-- the lines after a no: those of the near grants for what is asked. Another namespace can make a
+-- difference unless the target is asked for outside all namespaces
+abbrev pub IsWhyNotText : PolicyView → List Entry → Who → Question → Text → Type 0
+IsWhyNotText p entries who q text =
+    (target : What) × (namespace : Text) × IsMeant entries q target namespace
+    × ((is_namespaced : Bool) × (found : List Near)
+    × ((is_namespaced ≡ true) ↔ (¬ IsOutside entries q target))
+    × AreNear p (request_meant who q target namespace is_namespaced) found
+    × (text ≡ flat_map (near_line p) found))
+
+-- what comes after `no`: with `--why-not` and without `-q`, the lines of near grants; otherwise
+-- nothing
+abbrev pub ComesAfterNo : PolicyView → List Entry → Who → Bool → Bool → Question → Text → Type 0
+ComesAfterNo p entries who false true q text = IsWhyNotText p entries who q text
+ComesAfterNo p entries who false false q text = text ≡ []
+ComesAfterNo p entries who true why_not q text = text ≡ []
 
 -- the line of a rule that a principal has
 abbrev pub effective_line : RuleView → Text
@@ -137,12 +157,16 @@ changes_status (x ∷ xs) = One
 -- given steps, and 0 (own); `diff` a line for each change from the first policy to the second, and
 -- 1 if there is one, otherwise 0 (own)
 abbrev pub Answers : Exports → Action → List ℕ → Status → Type 0
-Answers (Single l) (CanI who quiet why q) text status =
+Answers (Single l) (CanI who options q) text status =
     (IsAllowed l.policy.held l.catalogue.entries who q
-    × ((reason : Text) × ComesAfterYes l.policy l.catalogue.entries who quiet why q reason
-    × (text ≡ line_unless quiet (codes "yes") ++ reason))
+    × ((reason : Text)
+    × ComesAfterYes l.policy l.catalogue.entries who options.quiet options.why q reason
+    × (text ≡ line_unless options.quiet (codes "yes") ++ reason))
     × (status ≡ Zero))
-    ⊎ (IsDenied l.policy.held l.catalogue.entries who q × (text ≡ line_unless quiet (codes "no"))
+    ⊎ (IsDenied l.policy.held l.catalogue.entries who q
+    × ((lacking : Text)
+    × ComesAfterNo l.policy l.catalogue.entries who options.quiet options.why_not q lacking
+    × (text ≡ line_unless options.quiet (codes "no") ++ lacking))
     × (status ≡ One))
 Answers (Single l) (WhoCan options q) text status =
     (target : What) × (scope : Scope) × IsTargetMeant l.catalogue.entries q.asked target

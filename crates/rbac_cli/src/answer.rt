@@ -40,11 +40,10 @@ pub(crate) fn print_answer<W: Write + Drop>(
     match action {
         Action::CanI {
             principal,
-            quiet,
-            why,
+            options,
             question,
         } => {
-            let verdict = verdict_of(alloc, export, principal, *quiet, *why, question)?;
+            let verdict = verdict_of(alloc, export, principal, *options, question)?;
             output.print(verdict.text.as_slice())?;
             Ok(verdict.status)
         }

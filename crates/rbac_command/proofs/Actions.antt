@@ -49,7 +49,7 @@ the_other name is_matrix is_who_can is_rules is_universe is_lint is_powers is_pa
 as_can_i : (name : Text) (rows : List Row) (r : Result Action QuestionFault) → name ≡ codes "can-i"
     → MatchResult r (λ a. AcceptsCanI (parts_in rows) × MeansCanI (parts_in rows) a) (RefusesCanI (parts_in rows))
     → MatchResult r (DoesAction name rows) (RefusesAction name rows)
-as_can_i name rows (Ok (CanI principal quiet why question)) e h = (e, h.0, h.1)
+as_can_i name rows (Ok (CanI principal options question)) e h = (e, h.0, h.1)
 as_can_i name rows (Ok (WhoCan options question)) e h = absurd h.1
 as_can_i name rows (Ok (WaysTo chosen question)) e h = absurd h.1
 as_can_i name rows (Ok (Rules principal scope)) e h = absurd h.1
@@ -78,7 +78,7 @@ can_i_line name rows l r e same h =
 as_who_can : (name : Text) (rows : List Row) (r : Result Action QuestionFault) → name ≡ codes "who-can"
     → MatchResult r (λ a. AcceptsWhoCan (who_can_in rows) × MeansWhoCan (who_can_in rows) a) (RefusesWhoCan (who_can_in rows))
     → MatchResult r (DoesAction name rows) (RefusesAction name rows)
-as_who_can name rows (Ok (CanI principal quiet why question)) e h = absurd h.1
+as_who_can name rows (Ok (CanI principal options question)) e h = absurd h.1
 as_who_can name rows (Ok (WhoCan options question)) e h = (e, h.0, h.1)
 as_who_can name rows (Ok (WaysTo chosen question)) e h = (e, h.0, h.1)
 as_who_can name rows (Ok (Rules principal scope)) e h = absurd h.1
@@ -107,7 +107,7 @@ who_can_line name rows l r e same h =
 as_rules : (name : Text) (rows : List Row) (r : Result Action QuestionFault) → name ≡ codes "rules"
     → MatchResult r (MeansRules (rules_line_in rows)) (RefusesRules (rules_line_in rows))
     → MatchResult r (DoesAction name rows) (RefusesAction name rows)
-as_rules name rows (Ok (CanI principal quiet why question)) e h = absurd h
+as_rules name rows (Ok (CanI principal options question)) e h = absurd h
 as_rules name rows (Ok (WhoCan options question)) e h = absurd h
 as_rules name rows (Ok (WaysTo chosen question)) e h = absurd h
 as_rules name rows (Ok (Rules principal scope)) e h = (e, h)
@@ -136,7 +136,7 @@ rules_line name rows l r e same h =
 as_paths : (name : Text) (rows : List Row) (r : Result Action QuestionFault) → name ≡ codes "paths"
     → MatchResult r (MeansPaths (paths_line_in rows)) (RefusesPaths (paths_line_in rows))
     → MatchResult r (DoesAction name rows) (RefusesAction name rows)
-as_paths name rows (Ok (CanI principal quiet why question)) e h = absurd h
+as_paths name rows (Ok (CanI principal options question)) e h = absurd h
 as_paths name rows (Ok (WhoCan options question)) e h = absurd h
 as_paths name rows (Ok (WaysTo chosen question)) e h = absurd h
 as_paths name rows (Ok (Rules principal scope)) e h = absurd h
@@ -165,7 +165,7 @@ paths_line name rows l r e same h =
 as_lint : (name : Text) (rows : List Row) (r : Result Action QuestionFault) → name ≡ codes "lint"
     → MatchResult r (MeansLint (lint_in rows)) (RefusesLint (lint_in rows))
     → MatchResult r (DoesAction name rows) (RefusesAction name rows)
-as_lint name rows (Ok (CanI principal quiet why question)) e h = absurd h
+as_lint name rows (Ok (CanI principal options question)) e h = absurd h
 as_lint name rows (Ok (WhoCan options question)) e h = absurd h
 as_lint name rows (Ok (WaysTo chosen question)) e h = absurd h
 as_lint name rows (Ok (Rules principal scope)) e h = absurd h
@@ -195,7 +195,7 @@ lint_line name rows l r e same h =
 pub matrix_line : (name : Text) (rows : List Row) (l : MatrixParts) (r : Result Action QuestionFault) → name ≡ codes "matrix"
     → l.options ≡ matrix_options_in rows → l.after ≡ first_of (codes "after") rows → IsNumberAt (codes "limit") rows l.limit → MatchResult r (MeansMatrix l) (RefusesMatrix l)
     → MatchResult r (DoesAction name rows) (RefusesAction name rows)
-matrix_line name rows l (Ok (CanI principal quiet why question)) e v f n h = absurd h
+matrix_line name rows l (Ok (CanI principal options question)) e v f n h = absurd h
 matrix_line name rows l (Ok (WhoCan options question)) e v f n h = absurd h
 matrix_line name rows l (Ok (WaysTo chosen question)) e v f n h = absurd h
 matrix_line name rows l (Ok (Rules principal scope)) e v f n h = absurd h
@@ -219,7 +219,7 @@ matrix_line name rows l (Err NoMemory) e v f n h = tt
 as_diff : (name : Text) (rows : List Row) (r : Result Action QuestionFault) → name ≡ codes "diff"
     → MatchResult r (MeansDiff (diff_in rows)) (RefusesDiff (diff_in rows))
     → MatchResult r (DoesAction name rows) (RefusesAction name rows)
-as_diff name rows (Ok (CanI principal quiet why question)) e h = absurd h
+as_diff name rows (Ok (CanI principal options question)) e h = absurd h
 as_diff name rows (Ok (WhoCan options question)) e h = absurd h
 as_diff name rows (Ok (WaysTo chosen question)) e h = absurd h
 as_diff name rows (Ok (Rules principal scope)) e h = absurd h

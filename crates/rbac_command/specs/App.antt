@@ -4,7 +4,7 @@ use Rattle.clap.specs.Lexer.{usize_max}
 use Rattle.clap.specs.Words.{App, Rule, Text, new_app, new_rule, with_rule, with_subcommand}
 use Rattle.clap.specs.declared.builder.ArgAction.TheVariants.{SetTrue, Append}
 use Rattle.clap.specs.declared.builder.value_parser.ValueParser.TheVariants.{Signed}
-use Rattle.rbac_command.specs.Flags.{flag_rule, why_rule}
+use Rattle.rbac_command.specs.Flags.{flag_rule, why_not_rule, why_rule}
 use Rattle.rbac_command.specs.HolderOptions.{with_holder_options}
 use Rattle.rbac_command.specs.MatrixOptions.{with_matrix_options}
 
@@ -151,12 +151,12 @@ abbrev pub with_who : App → App
 with_who a = with_rule (with_rule a who_rule) files_rule
 
 -- can-i --as USER [--groups A,B] [--group G].. [-n NS] [-A] [--in-namespace] [--subresource S] [-q]
--- [--why] VERB TARGET [FILE]..
+-- [--why] [--why-not] VERB TARGET [FILE]..
 abbrev pub can_i_app : App
 can_i_app =
-    with_question (with_rule
+    with_question (with_rule (with_rule
     (with_rule (with_scope (with_groups
-    (with_rule (new_app (codes "can-i")) user_rule))) quiet_rule) why_rule)
+    (with_rule (new_app (codes "can-i")) user_rule))) quiet_rule) why_rule) why_not_rule)
 
 -- who-can [-n NS] [-A] [--in-namespace] [--subresource S] [--anywhere] [--any-name] [--every]
 -- [--why] [--indirect] [--steps STEPS] VERB TARGET [FILE]..

@@ -11,6 +11,10 @@ flag_rule name = record (new_rule name) { long = Some name; action = Some SetTru
 abbrev pub every_rule : Rule
 every_rule = flag_rule (codes "every")
 
+-- `--why-not`
+abbrev pub why_not_rule : Rule
+why_not_rule = flag_rule (codes "why-not")
+
 -- `--why`
 abbrev pub why_rule : Rule
 why_rule = flag_rule (codes "why")

@@ -17,6 +17,7 @@ use Rattle.rbac_question.specs.declared.command.Action.TheVariants.{CanI, WhoCan
 use Rattle.rbac_question.specs.declared.command.Action.TheVariants.{Matrix, Universe, Lint}
 use Rattle.rbac_question.specs.declared.command.Action.TheVariants.{Powers, Paths, Diff}
 use Rattle.rbac_question.specs.declared.command.Command.{Command}
+use Rattle.rbac_question.specs.declared.command.VerdictOptions.{VerdictOptions}
 use Rattle.rbac_question.specs.declared.fault.QuestionFault.{QuestionFault}
 use Rattle.rbac_question.specs.declared.fault.QuestionFault.TheVariants as question
 use Rattle.rbac_question.specs.declared.line.DiffLine.{DiffLine}
@@ -51,14 +52,21 @@ question_in rows = record {
   target = value_at (codes "target") rows;
 }
 
+-- what a `can-i` line says of its answer
+abbrev pub verdict_options_in : List Row → VerdictOptions
+verdict_options_in rows = record {
+  quiet = has_flag (codes "quiet") rows;
+  why = has_flag (codes "why") rows;
+  why_not = has_flag (codes "why-not") rows;
+}
+
 -- the parts of a `can-i` line
 abbrev pub parts_in : List Row → CanIParts
 parts_in rows = record {
   user = value_at (codes "as") rows;
   groups = value_at (codes "groups") rows;
   whole_groups = texts_at (codes "group") rows;
-  quiet = has_flag (codes "quiet") rows;
-  why = has_flag (codes "why") rows;
+  options = verdict_options_in rows;
   question = question_in rows;
 }
 
@@ -138,9 +146,9 @@ is_known name = bytes_eq name (codes "can-i")
 
 -- what the subcommand of that name does, according to its matches
 abbrev pub DoesAction : Text → List Row → Action → Type 0
-DoesAction name rows (CanI principal quiet why question) =
+DoesAction name rows (CanI principal options question) =
     (name ≡ codes "can-i") × AcceptsCanI (parts_in rows)
-    × MeansCanI (parts_in rows) (CanI principal quiet why question)
+    × MeansCanI (parts_in rows) (CanI principal options question)
 DoesAction name rows (WhoCan options question) =
     (name ≡ codes "who-can") × AcceptsWhoCan (who_can_in rows)
     × MeansWhoCan (who_can_in rows) (WhoCan options question)

@@ -238,6 +238,8 @@ const NAMESPACE: &str = "Namespace to check (default: default)";
 
 const ALL: &str = "Check all namespaces at once: only ClusterRoleBindings grant this; overrides -n";
 
+const WHY_NOT: &str = "After no, print what each grant lacks that would allow it but for one thing";
+
 const WHY: &str = "After yes, print why: BINDING, its ROLE, the SOURCE role, its RULE, the SUBJECT";
 
 const INDIRECT: &str =
@@ -618,6 +620,7 @@ fn can_i<'a>(alloc: Global) -> Built<'a>
     let command = with_scope(alloc, command);
     let command = with(command, quiet_arg(alloc));
     let command = with(command, flag(alloc, "why", WHY));
+    let command = with(command, flag(alloc, "why-not", WHY_NOT));
     with_question(alloc, command)
 }
 

@@ -10,7 +10,7 @@ ghost use Rattle.rbac_command.specs.App.{rbac_app};
 ghost use Rattle.rbac_command.specs.MatrixOptions.{matrix_options_in};
 ghost use Rattle.rbac_command.specs.Meaning.{IsNumberAt, files_in, diff_files_in, question_in};
 ghost use Rattle.rbac_command.specs.Meaning.{parts_in, is_known, DoesAction, RefusesAction, Means};
-ghost use Rattle.rbac_command.specs.Meaning.{IsCauseOf, IsUsageFault, IsAnswer, who_can_in};
+ghost use Rattle.rbac_command.specs.Meaning.{IsCauseOf, IsUsageFault, IsAnswer, verdict_options_in, who_can_in};
 ghost use Rattle.rbac_command.specs.Meaning.{who_in, rules_line_in, paths_line_in};
 ghost use Rattle.rbac_command.specs.Meaning.{lint_in, diff_in};
 ghost use Rattle.rbac_command.specs.Values.{value_at, has_flag, texts_at};
@@ -23,7 +23,7 @@ use clap::ArgMatches;
 use clap::error::ErrorKind;
 use rbac_question::{
     Action, CanILine, Command, DiffLine, LintLine, MatrixLine, PathsLine, QuestionFault,
-    QuestionLine, RulesLine, WhoCanLine, WhoLine,
+    QuestionLine, RulesLine, VerdictOptions, WhoCanLine, WhoLine,
 };
 use std::alloc::{AllocError, Global};
 
@@ -69,6 +69,17 @@ fn question_of<'a>(matches: &ArgMatches<'a>) -> QuestionLine<'a>
     }
 }
 
+// What a `can-i` line says of its answer.
+fn verdict_options_of(matches: &ArgMatches<'_>) -> VerdictOptions
+    ensures { result ≡ verdict_options_in (rows_of (found_of matches.now)) }
+{
+    VerdictOptions {
+        quiet: flag_of(matches, "quiet"),
+        why: flag_of(matches, "why"),
+        why_not: flag_of(matches, "why-not"),
+    }
+}
+
 // The parts of a `can-i` line.
 fn line_of<'m, 'a>(matches: &'m ArgMatches<'a>) -> CanILine<'m, 'a>
     ensures { result ≡ parts_in (rows_of (found_of matches.now)) }
@@ -77,8 +88,7 @@ fn line_of<'m, 'a>(matches: &'m ArgMatches<'a>) -> CanILine<'m, 'a>
         user: text_of(matches, "as"),
         groups: text_of(matches, "groups"),
         whole_groups: values_of(matches, "group"),
-        quiet: flag_of(matches, "quiet"),
-        why: flag_of(matches, "why"),
+        options: verdict_options_of(matches),
         question: question_of(matches),
     }
 }

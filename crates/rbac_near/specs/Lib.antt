@@ -2,3 +2,4 @@ pub mod Lacking
 pub mod Members
 pub mod Named
 pub mod Near
+pub mod NearLines

@@ -3,9 +3,11 @@
 
 mod lacking;
 mod laws;
+mod line;
 mod members;
 mod named;
 mod near;
 
+pub use line::put_near;
 pub use laws::{near_grants_are_one, near_grants_would_allow};
 pub use near::{Missing, Near, Request, near_grants};

@@ -16,6 +16,7 @@ use Rattle.rbac_question.specs.declared.command.Change.{Change}
 use Rattle.rbac_question.specs.declared.command.Change.TheVariants.{After, Over}
 use Rattle.rbac_question.specs.declared.command.MatrixOptions.{MatrixOptions}
 use Rattle.rbac_question.specs.declared.command.Question.{Question}
+use Rattle.rbac_question.specs.declared.command.VerdictOptions.{VerdictOptions}
 use Rattle.rbac_question.specs.declared.fault.QuestionFault.{QuestionFault}
 use Rattle.rbac_question.specs.declared.fault.QuestionFault.TheVariants.{EmptyWord, UrlSubresource}
 use Rattle.rbac_question.specs.declared.fault.QuestionFault.TheVariants.{BadToken, BadPrincipal}
@@ -38,8 +39,7 @@ pub record CanIParts : Type 0 where
   pub user : Text
   pub groups : Text
   pub whole_groups : List Text
-  pub quiet : Bool
-  pub why : Bool
+  pub options : VerdictOptions
   pub question : QuestionParts
 
 -- the parts of a line that name a principal: WHO, the text after `--groups`, which is empty if it
@@ -106,9 +106,9 @@ pub record IsQuestion (l : QuestionParts) (q : Question) : Type 0 where
 
 -- what a `can-i` line means: the user with these groups asks the question
 abbrev pub MeansCanI : CanIParts → Action → Type 0
-MeansCanI l (CanI principal quiet why question) =
-    (principal ≡ AsUser l.user (groups_given l.groups l.whole_groups)) × (quiet ≡ l.quiet)
-    × (why ≡ l.why) × IsQuestion l.question question
+MeansCanI l (CanI principal options question) =
+    (principal ≡ AsUser l.user (groups_given l.groups l.whole_groups)) × (options ≡ l.options)
+    × IsQuestion l.question question
 MeansCanI l action = ⊥
 
 -- WHO names the principal: `u:` and the name of a user, who has the groups of `--groups` and

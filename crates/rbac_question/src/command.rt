@@ -29,6 +29,17 @@ impl Drop for Question {
     }
 }
 
+/// What `can-i` writes.
+#[derive(Drop, Clone, Copy)]
+pub struct VerdictOptions {
+    /// Whether the answer is the exit status alone.
+    pub quiet: bool,
+    /// Whether a second line explains a yes.
+    pub why: bool,
+    /// Whether a no is followed by a line for each grant that lacks one thing.
+    pub why_not: bool,
+}
+
 /// Which holders `who-can` lists, and what a line contains.
 #[derive(Drop, Clone, Copy)]
 pub struct HolderOptions {
@@ -71,10 +82,8 @@ pub enum Action {
     CanI {
         /// The user of `--as`, with the groups of `--groups` and `--group`.
         principal: Principal,
-        /// Whether the answer is the exit status alone.
-        quiet: bool,
-        /// Whether a second line explains a yes.
-        why: bool,
+        /// What is written.
+        options: VerdictOptions,
         /// What is asked.
         question: Question,
     },
@@ -142,8 +151,7 @@ impl Drop for Action {
         match self {
             Self::CanI {
                 principal: _,
-                quiet: _,
-                why: _,
+                options: _,
                 question: _,
             } => {}
             Self::WhoCan {

@@ -13,6 +13,7 @@ mod who_can_line;
 
 pub use asked::{Asked, AskedFor};
 pub use command::{Action, Change, Command, HolderOptions, MatrixOptions, Question};
+pub use command::VerdictOptions;
 pub use fault::QuestionFault;
 pub use line::{CanILine, DiffLine, LintLine, MatrixLine, QuestionLine, RulesLine};
 pub use paths_line::PathsLine;

@@ -13,7 +13,7 @@ ghost use Rattle.rbac_question.specs.Lines.{IsCodeWord, AreCodesIn, HasBadCode, 
 ghost use Rattle.rbac_question.specs.Lines.{RefusesLint, MeansDiff, RefusesDiff};
 
 use crate::asked::{Asked, check_target};
-use crate::command::{Action, Change, MatrixOptions, Question};
+use crate::command::{Action, Change, MatrixOptions, Question, VerdictOptions};
 use crate::fault::QuestionFault;
 use crate::who::{WhoLine, principal_from, principal_of};
 use rbac_terms::{Scope, Word};
@@ -63,10 +63,8 @@ pub struct CanILine<'m, 'a> {
     pub groups: &'a str,
     /// The name after each `--group`, in order, if it is given.
     pub whole_groups: Option<&'m [&'a str]>,
-    /// Whether `-q` is given.
-    pub quiet: bool,
-    /// Whether `--why` is given.
-    pub why: bool,
+    /// Which of `-q`, `--why` and `--why-not` are given.
+    pub options: VerdictOptions,
     /// The parts that ask the question.
     pub question: QuestionLine<'a>,
 }
@@ -82,8 +80,7 @@ impl<'m, 'a> Model for CanILine<'m, 'a> {
       user = l.user.now;
       groups = l.groups.now;
       whole_groups = names_in (option_map (λ names. map (λ n. n.now) names.now) l.whole_groups);
-      quiet = l.quiet;
-      why = l.why;
+      options = l.options;
       question = l.question;
     } };
 }
@@ -314,8 +311,7 @@ fn can_i_from(alloc: Global, line: &CanILine<'_, '_>) -> Result<Action, Question
     let question = question_of(alloc, &line.question)?;
     Ok(Action::CanI {
         principal,
-        quiet: line.quiet,
-        why: line.why,
+        options: line.options,
         question,
     })
 }

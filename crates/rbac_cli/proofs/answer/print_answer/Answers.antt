@@ -11,7 +11,7 @@ use Rattle.rbac_cli.proofs.answer.print_answer.Goals as goal
 pub returns-in_err-print-in-CanI : goal.returns-in_err-print-in-CanI
 returns-in_err-print-in-CanI g c =
     let verdict = c.in_ok-verdict-in-CanI.verdict in
-    let action = CanI c.in-CanI.principal c.in-CanI.quiet c.in-CanI.why c.in-CanI.question in
+    let action = CanI c.in-CanI.principal c.in-CanI.options c.in-CanI.question in
     let ended = c.in_err-print-in-CanI.ensures in
     let fault = c.in_err-print-in-CanI.field-0.0 in
     let stops = rw c.as_slice.ensures.value at ended.err in
