@@ -41,8 +41,18 @@ const CAN_I_MORE: &str = "The line of --why has five fields, joined by tabs:
   RULE     the number of the rule in SOURCE, from 1
   SUBJECT  the number of the subject in BINDING, from 1
 
+With --why-not, a no is followed by a line for each grant that would allow the request but for one
+thing. Before these five fields stand WHAT is missing and what the grant HAS instead:
+  namespace    the RoleBinding is of the namespace HAS
+  verb         the rule has the verbs HAS
+  group        the rule has the API groups HAS
+  subresource  the rule has the resources HAS: the same with another subresource, or with none
+  name         the rule is limited to the object names HAS
+  member       the binding is for the group HAS, and the user isn't known to be in it
+
 Examples:
   rbacaudit can-i --as alice -n dev get pods cluster.json namespaced.json
+  rbacaudit can-i --as alice -n dev --why-not delete pods cluster.json namespaced.json
   rbacaudit can-i --as alice --groups dev,ops -n dev --why get pods --subresource log *.json";
 
 const WHO_CAN_MORE: &str =
