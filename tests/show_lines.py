@@ -24,6 +24,23 @@ yes
 BINDING               ROLE                  SOURCE                 RULE  SUBJECT
 RoleBinding/shop/re…  ClusterRole/shop-vi…  ClusterRole/shop-pods  1     12
 '''
+LACKING = 'no\n' + tabs(r'''
+namespace prod RoleBinding/prod/b Role/prod/r Role/prod/r 1 2
+verb [get,a\x2cb] RoleBinding/dev/b ClusterRole/r ClusterRole/s 12 1
+member g:ops ClusterRoleBinding/b ClusterRole/r ClusterRole/r 1 3''')
+LACKING_TABLE = r'''no
+WHAT       HAS           BINDING               ROLE           SOURCE         RULE  SUBJECT
+namespace  prod          RoleBinding/prod/b    Role/prod/r    Role/prod/r    1     2
+verb       [get,a\x2cb]  RoleBinding/dev/b     ClusterRole/r  ClusterRole/s  12    1
+member     g:ops         ClusterRoleBinding/b  ClusterRole/r  ClusterRole/r  1     3
+'''
+# (90 columns: BINDING of 20 gives seven, and then the three that have 13 give one each)
+LACKING_80 = r'''no
+WHAT       HAS           BINDING       ROLE          SOURCE        RULE  SUBJECT
+namespace  prod          RoleBinding…  Role/prod/r   Role/prod/r   1     2
+verb       [get,a\x2cb]  RoleBinding…  ClusterRole…  ClusterRole…  12    1
+member     g:ops         ClusterRole…  ClusterRole…  ClusterRole…  1     3
+'''
 HOLDERS = tabs('''
 g:system:masters ClusterRoleBinding/cluster-admin
 u:kim RoleBinding/shop/kim''')
@@ -208,6 +225,10 @@ COMMANDS = {
         OF_WHY, ('RoleBinding/shop/readers', 'ClusterRole/shop-view', 'ClusterRole/shop-pods', 1, 12))],
                     ['RoleBinding/shop/readers']),
     'can-i': ('no\n', 'no\n', 'no\n', [{'allowed': False}], []),
+    'can-i --why-not': (LACKING, LACKING_TABLE, LACKING_80, [{'allowed': False}, *objects(
+        'what has ' + OF_WHY, ('namespace', 'prod', 'RoleBinding/prod/b', 'Role/prod/r', 'Role/prod/r', 1, 2),
+        ('verb', ['get', 'a,b'], 'RoleBinding/dev/b', 'ClusterRole/r', 'ClusterRole/s', 12, 1),
+        ('member', 'g:ops', 'ClusterRoleBinding/b', 'ClusterRole/r', 'ClusterRole/r', 1, 3))], ['namespace', 'verb', 'member']),
     'who-can': (HOLDERS, HOLDERS_TABLE, HOLDERS_TABLE, objects(
         'who binding', ('g:system:masters', 'ClusterRoleBinding/cluster-admin'), ('u:kim', 'RoleBinding/shop/kim')),
                 ['g:system:masters', 'u:kim']),

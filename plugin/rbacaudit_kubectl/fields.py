@@ -123,12 +123,14 @@ PRINCIPAL = '[ug]:' + FIELD
 ROLE, BINDING = (r'(?:Cluster{0}/(?=[^\t])|{0}/(?=[^\t]+/[^\t]))'.format(kind) + _REST for kind in ('Role', 'RoleBinding'))
 NUMBER = '[1-9][0-9]{0,17}'
 STEP = '(?:%s)' % '|'.join(STEP_NAMES)
+# What a near grant lacks, and whether it has a list of the rule in its place.
+WHAT = {'namespace': False, 'verb': True, 'group': True, 'subresource': True, 'name': True, 'member': False}
 # What a field of each kind looks like. Fields of `any` may be *, which is no name then.
 KINDS = {
     'text': FIELD, 'any': FIELD, 'detail': FIELD, 'who': PRINCIPAL, 'whose': '(?:%s|total)' % PRINCIPAL, 'binding': BINDING, 'role': ROLE,
     'node': r'(?:%s|\*|%s)' % (PRINCIPAL, ROLE), 'next': r'(?:%s|[-*]|%s)' % (PRINCIPAL, ROLE), 'bound': '(?:-|%s)' % BINDING, 'held': '(?:-|%s)' % ROLE,
     'number': NUMBER, 'count': '(?:0|%s)' % NUMBER, 'place': '(?:-|%s)' % NUMBER, 'list': r'\[(?:%s(?:,%s)*)?\]' % (_WORD, _WORD),
-    'code': 'L[1-9][0-9]*', 'sign': '[-+]', 'step': STEP, 'by': '(?:-|%s)' % STEP}
+    'code': 'L[1-9][0-9]*', 'sign': '[-+]', 'step': STEP, 'by': '(?:-|%s)' % STEP, 'what': '(?:%s)' % '|'.join(WHAT), 'has': FIELD}
 
 
 @dataclass(frozen=True)
@@ -161,6 +163,7 @@ _FINDING = 'CODE:code NAME OBJECT PLACE:place DETAIL:detail'
 # (HEAD, HEAD:KIND or HEAD:KIND:KEY)
 SHAPES = (
     _shape('can-i', 0, _GRANT),
+    _shape('can-i', 0, 'WHAT:what HAS:has ' + _GRANT),
     _shape('who-can', 0, 'WHO:who BINDING:binding'),
     _shape('who-can', 0, 'WHO:who ' + _GRANT),
     _shape('rules', 0, _GRANT + ' VERBS:list GROUPS:list:api_groups RESOURCES:list NAMES:list:resource_names URLS:list:non_resource_urls'),

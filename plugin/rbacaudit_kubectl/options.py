@@ -58,7 +58,7 @@ OF_EXPORT = (
 # rbacaudit's own, which the plugin passes on: their values have to be known for what they are.
 PASSED = {option.long: option for option in (
     Option('--as', 'USER'), Option('--groups', 'A,B'), Option('--group', 'G', repeats=True), Option('-n,--namespace', 'NS'),
-    Option('-A,--all-namespaces'), Option('--in-namespace'), Option('--subresource', 'S'), Option('-q,--quiet'), Option('--why'),
+    Option('-A,--all-namespaces'), Option('--in-namespace'), Option('--subresource', 'S'), Option('-q,--quiet'), Option('--why'), Option('--why-not'),
     Option('--anywhere'), Option('--any-name'), Option('--every'), Option('--indirect'), Option('--steps', 'STEPS'), Option('--once'),
     Option('--after', 'TOKEN'), Option('--limit', 'N'), Option('--only', 'CODES'), Option('--skip-system'))}
 SCOPE = '--namespace --all-namespaces --in-namespace --subresource '
@@ -80,7 +80,7 @@ class Command:
 
 COMMANDS: dict[str, Command] = {
     'can-i': Command('--as USER [-n NS] VERB TARGET', 'may USER do that: yes (exit status 0) or no (1)', 'VERB TARGET FILE',
-                     SCOPE + '--as --groups --group --quiet --why'),
+                     SCOPE + '--as --groups --group --quiet --why --why-not'),
     'who-can': Command('[-n NS] VERB TARGET', 'who may do that; with --indirect, by taking over others too', 'VERB TARGET FILE',
                        SCOPE + '--anywhere --any-name --every --why --indirect --steps'),
     'rules': Command('[-n NS] WHO', 'which rules the user u:NAME or the group g:NAME has', 'WHO FILE', '--groups --group --namespace --all-namespaces'),

@@ -5,10 +5,10 @@ from __future__ import annotations
 from .errors import Ended, Refused
 from .options import COMMANDS, Options, Token, choose_format, tokens_of
 from .processes import NOTHING, Session
-from .terminal import print_text
+from .terminal import is_terminal, print_text
 
 FLAGS = {'--all-namespaces': 'everywhere', '--anywhere': 'anywhere', '--in-namespace': 'in_namespace', '--indirect': 'indirect',
-         '--once': 'once', '--why': 'why'}
+         '--once': 'once', '--quiet': 'quiet', '--why': 'why', '--why-not': 'why_not'}
 VALUES = {'--as': 'asker', '--subresource': 'subresource', '--only': 'codes', '--namespace': 'namespace'}
 ROLES = ['cluster.json', 'namespaced.json']
 PARTS = {'rules': ROLES, 'powers': ROLES, 'lint': ROLES, 'diff': ROLES, 'paths': [*ROLES, 'accounts.json'],
@@ -23,7 +23,8 @@ class Question:
         self.command, self.files = command, files or []
         self.words, self.places, self.groups = list[str](), list[str](), list[str]()    # without files; VERB and TARGET, or WHO
         self.verb = self.type = self.object = self.subresource = self.codes = self.asker = self.namespace = ''
-        self.everywhere = self.anywhere = self.in_namespace = self.indirect = self.once = self.why = self.has_namespace = False
+        self.everywhere = self.anywhere = self.in_namespace = self.indirect = self.once = self.has_namespace = False
+        self.quiet = self.why = self.why_not = False
         self.dashed = ''            # the last value that begins with a dash and its option, as they have to be written
         self.asked_in = asked_in    # the namespace that it is about, or nothing for the whole cluster:
         self.implied = self.own = ''    # if the context says it; if it is about that namespace's own object
@@ -151,6 +152,9 @@ def question_command(session: Session, command: str, words: list[str]) -> int:
                    'lists its options, such as --export DIR, --partial and -o FORMAT.\n' % command)
         return status
     choose_format(options, command)
+    # (whoever reads a no asks next why)
+    if command == 'can-i' and options.format in ('table', 'wide') and is_terminal(1) and not (question.quiet or question.why_not):
+        question.words.insert(0, '--why-not')
     # (lint of manifests reads neither a cluster nor an export)
     alone = command == 'lint' and not options.export and bool(question.files)
     check_cluster(session, options, alone)

@@ -15,7 +15,7 @@ from . import VERSION
 from .errors import Ended, Refused
 from .escapes import bytes_of, escaped
 from .escapes import text_of as text_of_bytes
-from .fields import NUMBER, REMARK, SHAPES, Row, Shape, text_of, words_of
+from .fields import NUMBER, REMARK, SHAPES, WHAT, Row, Shape, text_of, words_of
 from .table import Table
 from .terminal import has_colors, is_terminal, print_text, report
 
@@ -48,6 +48,8 @@ Show the lines of rbacaudit: as a table, as JSON, or as names.
 
 rbacaudit-show knows the command by the number of fields and the first field:
   can-i          yes or no; BINDING ROLE SOURCE RULE SUBJECT
+  can-i --why-not
+                 WHAT HAS BINDING ROLE SOURCE RULE SUBJECT
   who-can        WHO BINDING
   who-can --why  WHO BINDING ROLE SOURCE RULE SUBJECT
   who-can --indirect
@@ -176,7 +178,8 @@ def keys_of(shape: Shape, cells: Sequence[str]) -> Iterator[tuple[str, str]]:
     for _, kind, key in shape.fields:
         # (the detail of these findings is the place of a rule or of a document)
         is_place = kind == 'detail' and cells[0] in ('L3', 'L7') and re.fullmatch(NUMBER, cells[4])
-        yield key, 'number' if is_place else kind
+        is_list = kind == 'has' and WHAT[cells[0]]
+        yield key, 'number' if is_place else 'list' if is_list else kind
 
 
 def objects_of(rows: Iterable[Row]) -> Iterator[str]:

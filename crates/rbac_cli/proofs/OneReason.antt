@@ -10,12 +10,12 @@ use Rattle.rbac_model.specs.Policies.{PolicyView, GrantView, GrantAllows, IsWhy}
 use Rattle.rbac_catalogue.specs.declared.entry.Entry.{Entry}
 use Rattle.rbac_question.specs.declared.command.Question.{Question}
 use Rattle.rbac_text.specs.Why.{why_text}
-use Rattle.rbac_near.specs.Near.{AreNear}
+use Rattle.rbac_near.specs.Near.{RequestView}
 use Rattle.rbac_near.specs.NearLines.{near_line}
 use Rattle.rbac_near.specs.declared.near.Near.{Near}
 use Rattle.rbac_near.proofs.OneNear.{one_near}
 use Rattle.rbac_cli.specs.Meant.{IsOutside, request_meant}
-use Rattle.rbac_cli.specs.Out.{IsWhyText, IsWhyNotText, ComesAfterNo, ComesAfterYes}
+use Rattle.rbac_cli.specs.Out.{IsWhyText, ComesAfterNo, ComesAfterYes, FollowsNo}
 use Rattle.rbac_cli.proofs.OneMeant.{one_meant}
 
 module _ (p : PolicyView) (who : Who) (namespace verb : Text) (t : What) (g k : GrantView) (i j : ℕ) (a : IsWhy p who namespace verb t g i) (b : IsWhy p who namespace verb t k j) where
@@ -46,19 +46,19 @@ module _ (p : PolicyView) (entries : List Entry) (who : Who) (q : Question) (tex
       let here = subst (λ x. IsWhy p who m q.verb x g i) same.0 (subst (λ x. IsWhy p who x q.verb t g i) same.1 is) in
       e ∙ one_line p who m q.verb u g k i j here are ∙ sym d
 
-  one_why_not : IsWhyNotText p entries who q text → IsWhyNotText p entries who q other → text ≡ other
-  one_why_not (t, n, meant, (a, xs, is, are, e)) (u, m, means, (b, ys, has, those, d)) =
-      let same = one_meant entries q t u n m meant means in
-      let one : a ≡ b = same_truth a b (¬ IsOutside entries q u) (subst (λ x. (a ≡ true) ↔ (¬ IsOutside entries q x)) same.0 is) has in
-      let here : AreNear p (request_meant who q u m b) xs =
-      subst (λ x. AreNear p (request_meant who q u m x) xs) one
-      (subst (λ x. AreNear p (request_meant who q u x a) xs) same.1 (subst (λ x. AreNear p (request_meant who q x n a) xs) same.0 are)) in
-      e ∙ ap (λ (found : List Near). flat_map (near_line p) found) (one_near p (request_meant who q u m b) xs ys here those) ∙ sym d
+  follows_one : (request : RequestView) (quiet why_not : Bool) → FollowsNo p request quiet why_not text → FollowsNo p request quiet why_not other → text ≡ other
+  follows_one request false true (xs, are, e) (ys, those, d) = e ∙ ap (λ (found : List Near). flat_map (near_line p) found) (one_near p request xs ys are those) ∙ sym d
+  follows_one request false false a b = a ∙ sym b
+  follows_one request true why_not a b = a ∙ sym b
 
   pub one_lacking : (quiet why_not : Bool) → ComesAfterNo p entries who quiet why_not q text → ComesAfterNo p entries who quiet why_not q other → text ≡ other
-  one_lacking false true a b = one_why_not a b
-  one_lacking false false a b = a ∙ sym b
-  one_lacking true why_not a b = a ∙ sym b
+  one_lacking quiet why_not (t, n, a, meant, is, follows) (u, m, b, means, has, after) =
+      let same = one_meant entries q t u n m meant means in
+      let one : a ≡ b = same_truth a b (¬ IsOutside entries q u) (subst (λ x. (a ≡ true) ↔ (¬ IsOutside entries q x)) same.0 is) has in
+      let here : FollowsNo p (request_meant who q u m b) quiet why_not text =
+      subst (λ x. FollowsNo p (request_meant who q u m x) quiet why_not text) one
+      (subst (λ x. FollowsNo p (request_meant who q u x a) quiet why_not text) same.1 (subst (λ x. FollowsNo p (request_meant who q x n a) quiet why_not text) same.0 follows)) in
+      follows_one (request_meant who q u m b) quiet why_not here after
 
   pub one_reason : (quiet why : Bool) → ComesAfterYes p entries who quiet why q text → ComesAfterYes p entries who quiet why q other → text ≡ other
   one_reason false true a b = one_why a b

@@ -1,7 +1,5 @@
 -- A verdict, its text and its status.
 use Rattle.std.proofs.Common.{◌≡◌, ◌∙◌, ◌↔◌, ◌++◌, Bool, true, false, not, true≢false, List, [], codes, refl, sym, inl, inr, append-nil}
-use Rattle.std.specs.List.{flat_map}
-use Rattle.std.specs.Prelude.{Some}
 use Rattle.std.proofs.lemmas.Option.{slice_get_within, get_or_from_slice_get}
 use Rattle.rbac_terms.specs.Text.{Text}
 use Rattle.rbac_terms.specs.Targets.{What}
@@ -15,14 +13,11 @@ use Rattle.rbac_manifest.specs.Load.{LoadedView}
 use Rattle.rbac_question.specs.declared.command.Action.TheVariants.{CanI}
 use Rattle.rbac_question.specs.declared.command.Question.{Question}
 use Rattle.rbac_question.specs.declared.command.VerdictOptions.{VerdictOptions}
-use Rattle.rbac_near.specs.Near.{AreNear}
-use Rattle.rbac_near.specs.NearLines.{near_line}
-use Rattle.rbac_near.specs.declared.near.Near.{Near}
 use Rattle.rbac_cli.specs.Meant.{IsNamespaceMeant, IsMeant, IsOutside, request_meant}
-use Rattle.rbac_cli.specs.Out.{Answers, ComesAfterNo, ComesAfterYes, IsWhyNotText, IsWhyText, line_unless, word_line}
+use Rattle.rbac_cli.specs.Out.{Answers, ComesAfterNo, ComesAfterYes, FollowsNo, IsWhyText, line_unless, word_line}
 use Rattle.rbac_cli.specs.declared.outcome.Status.TheVariants.{Zero, One}
 use Rattle.rbac_cli.specs.declared.exports.Exports.TheVariants.{Single}
-use Rattle.rbac_cli.specs.Verdicts.{verdict_text, found_text}
+use Rattle.rbac_cli.specs.Verdicts.{yes_text, found_text}
 
 pub one_namespace : (entries : List Entry) (q : Question) (target : What) (n m : Text) → IsNamespaceMeant entries q target n → IsNamespaceMeant entries q target m → n ≡ m
 one_namespace entries q target n m (inl a) (inl b) = a.1 ∙ sym b.1
@@ -39,14 +34,14 @@ module _ (l : LoadedView) (who : Who) (q : Question) (target : What) (namespace 
   why_line found (g, is_why, shows) = (target, namespace, meant, (g, found.subject_place, is_why, rw (shows.0, shows.1, shows.2) refl))
 
   after_yes : (quiet why : Bool) (found : Why) → IsWhyShown l.policy who namespace q.verb target found
-      → (reason : Text) × ComesAfterYes l.policy l.catalogue.entries who quiet why q reason × (verdict_text quiet why (Some found) ≡ line_unless quiet (codes "yes") ++ reason)
+      → (reason : Text) × ComesAfterYes l.policy l.catalogue.entries who quiet why q reason × (yes_text quiet why found ≡ line_unless quiet (codes "yes") ++ reason)
   after_yes true why found shown = ([], refl, refl)
   after_yes false true found shown = (found_text found, why_line found shown, refl)
   after_yes false false found shown = ([], refl, sym (append-nil (word_line (codes "yes"))))
 
   -- the answer yes, and what comes after it
   pub verdict_yes : (options : VerdictOptions) (found : Why) → IsWhyShown l.policy who namespace q.verb target found → IsFirst l.policy.held who namespace q.verb target found.binding.now
-      → Answers (Single l) (CanI who options q) (verdict_text options.quiet options.why (Some found)) Zero
+      → Answers (Single l) (CanI who options q) (yes_text options.quiet options.why found) Zero
   verdict_yes options found shown first =
       inl ((target, namespace, meant, allows_first l.policy.held who namespace q.verb target found.binding.now first), after_yes options.quiet options.why found shown, refl)
 
@@ -56,9 +51,9 @@ module _ (l : LoadedView) (who : Who) (q : Question) (target : What) (namespace 
       → Answers (Single l) (CanI who options q) text One
   verdict_no options text lacking none after is = inr ((target, namespace, meant, none), (lacking, after, is), refl)
 
-  -- the near grants of the request are those of the question
-  pub why_not : (is_outside is_namespaced : Bool) (found : List Near) → (is_outside ≡ true) ↔ IsOutside l.catalogue.entries q target → is_namespaced ≡ not is_outside
-      → AreNear l.policy (request_meant who q target namespace is_namespaced) found
-      → IsWhyNotText l.policy l.catalogue.entries who q (flat_map (near_line l.policy) found)
-  why_not true is_namespaced found outside is are = (target, namespace, meant, (is_namespaced, found, (λ e. absurd (true≢false (sym e ∙ is)), λ inside. absurd (inside (outside.0 refl))), are, refl))
-  why_not false is_namespaced found outside is are = (target, namespace, meant, (is_namespaced, found, (λ e h. true≢false (sym (outside.1 h)), λ inside. is), are, refl))
+  -- what follows a no to the request comes after a no to the question
+  pub after_no : (is_outside is_namespaced quiet not_told : Bool) (lacking : Text) → (is_outside ≡ true) ↔ IsOutside l.catalogue.entries q target → is_namespaced ≡ not is_outside
+      → FollowsNo l.policy (request_meant who q target namespace is_namespaced) quiet not_told lacking
+      → ComesAfterNo l.policy l.catalogue.entries who quiet not_told q lacking
+  after_no true is_namespaced quiet not_told lacking outside is follows = (target, namespace, is_namespaced, meant, (λ e. absurd (true≢false (sym e ∙ is)), λ inside. absurd (inside (outside.0 refl))), follows)
+  after_no false is_namespaced quiet not_told lacking outside is follows = (target, namespace, is_namespaced, meant, (λ e h. true≢false (sym (outside.1 h)), λ inside. is), follows)

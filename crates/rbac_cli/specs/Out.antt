@@ -1,5 +1,5 @@
 -- What a command writes, and its status.
-use Rattle.std.specs.Prelude.{◌≡◌, ℕ, ◌⊎◌, Bool, true, false, List, [], ◌∷◌, ◌++◌, codes}
+use Rattle.std.specs.Prelude.{◌≡◌, ◌↔◌, ℕ, ◌⊎◌, Bool, true, false, List, [], ◌∷◌, ◌++◌, codes}
 use Rattle.std.specs.Prelude.{Option, option_map, vec_items}
 use Rattle.std.specs.List.{flat_map}
 use Rattle.rbac_terms.specs.Text.{Text}
@@ -32,7 +32,7 @@ use Rattle.rbac_question.specs.declared.command.Action.TheVariants.{Powers, Path
 use Rattle.rbac_question.specs.declared.command.Question.{Question}
 use Rattle.rbac_rules.specs.Effective.{RuleView, AreEffective}
 use Rattle.rbac_index.specs.WhoCan.{AreListedHolders}
-use Rattle.rbac_near.specs.Near.{AreNear}
+use Rattle.rbac_near.specs.Near.{AreNear, RequestView}
 use Rattle.rbac_near.specs.NearLines.{near_line}
 use Rattle.rbac_near.specs.declared.near.Near.{Near}
 use Rattle.rbac_cli.specs.HolderLines.{AreHolderLines, joined_lines}
@@ -82,22 +82,25 @@ ComesAfterYes p entries who false true q text = IsWhyText p entries who q text
 ComesAfterYes p entries who false false q text = text ≡ []
 ComesAfterYes p entries who true why q text = text ≡ []
 
--- the lines after a no: those of the near grants for what is asked. Another namespace can make a
--- difference unless the target is asked for outside all namespaces
-abbrev pub IsWhyNotText : PolicyView → List Entry → Who → Question → Text → Type 0
-IsWhyNotText p entries who q text =
-    (target : What) × (namespace : Text) × IsMeant entries q target namespace
-    × ((is_namespaced : Bool) × (found : List Near)
-    × ((is_namespaced ≡ true) ↔ (¬ IsOutside entries q target))
-    × AreNear p (request_meant who q target namespace is_namespaced) found
-    × (text ≡ flat_map (near_line p) found))
+-- the lines of the near grants for a request, in order
+abbrev pub AreNearLines : PolicyView → RequestView → Text → Type 0
+AreNearLines p request text =
+    (found : List Near) × AreNear p request found × (text ≡ flat_map (near_line p) found)
 
--- what comes after `no`: with `--why-not` and without `-q`, the lines of near grants; otherwise
--- nothing
+-- what follows `no`: with `--why-not` and without `-q`, the lines of near grants; otherwise nothing
+abbrev pub FollowsNo : PolicyView → RequestView → Bool → Bool → Text → Type 0
+FollowsNo p request false true text = AreNearLines p request text
+FollowsNo p request false false text = text ≡ []
+FollowsNo p request true why_not text = text ≡ []
+
+-- the same, of what the question asks; another namespace can make a difference unless the target is
+-- asked for outside all namespaces
 abbrev pub ComesAfterNo : PolicyView → List Entry → Who → Bool → Bool → Question → Text → Type 0
-ComesAfterNo p entries who false true q text = IsWhyNotText p entries who q text
-ComesAfterNo p entries who false false q text = text ≡ []
-ComesAfterNo p entries who true why_not q text = text ≡ []
+ComesAfterNo p entries who quiet why_not q text =
+    (target : What) × (namespace : Text) × (is_namespaced : Bool)
+    × IsMeant entries q target namespace
+    × ((is_namespaced ≡ true) ↔ (¬ IsOutside entries q target))
+    × FollowsNo p (request_meant who q target namespace is_namespaced) quiet why_not text
 
 -- the line of a rule that a principal has
 abbrev pub effective_line : RuleView → Text

@@ -1,13 +1,11 @@
 //! Verdicts.
 
-ghost use Rattle.std.specs.Prelude.{◌≡◌, ◌++◌, IfOk, List, OnOk};
-ghost use Rattle.std.specs.List.{flat_map};
-ghost use Rattle.rbac_near.specs.Near.{AreNear, request_of};
-ghost use Rattle.rbac_near.specs.NearLines.{near_line};
-ghost use Rattle.rbac_near.specs.declared.near.Near.{Near};
+ghost use Rattle.std.specs.Prelude.{◌≡◌, ◌++◌, IfOk, OnOk, codes};
+ghost use Rattle.rbac_terms.specs.Text.{Text};
+ghost use Rattle.rbac_near.specs.Near.{request_of};
 ghost use Rattle.rbac_question.specs.declared.command.Action.TheVariants.{CanI};
-ghost use Rattle.rbac_cli.specs.Out.{Answers};
-ghost use Rattle.rbac_cli.specs.Verdicts.{verdict_text, verdict_status};
+ghost use Rattle.rbac_cli.specs.Out.{Answers, AreNearLines, FollowsNo, line_unless};
+ghost use Rattle.rbac_cli.specs.Verdicts.{yes_text};
 ghost use Rattle.rbac_cli.specs.declared.exports.Exports.TheVariants.{Single};
 
 use crate::meaning::meant_by;
@@ -63,14 +61,64 @@ pub(crate) fn verdict_of(
         &question.verb,
         &meant.target,
     );
-    let mut text = text_of(alloc, options, &found)?;
-    if found.is_none() && options.why_not && !options.quiet {
-        put_near_grants(alloc, policy, request, &mut text)?;
+    match found {
+        Some(found) => {
+            let text = yes_text(alloc, options, found)?;
+            let status = Status::Zero;
+            Ok(Verdict { text, status })
+        }
+        None => {
+            let text = no_text(alloc, policy, request, options)?;
+            let status = Status::One;
+            Ok(Verdict { text, status })
+        }
     }
-    Ok(Verdict {
-        text,
-        status: status_of(&found),
-    })
+}
+
+// The text that is printed for a yes.
+fn yes_text(
+    alloc: Global,
+    options: VerdictOptions,
+    found: Why<'_>,
+) -> Result<Vec<u8>, AllocError>
+    ensures { IfOk result (λ text. text.items ≡ yes_text options.quiet options.why found.entry) }
+{
+    let mut text = Vec::new(alloc);
+    if options.quiet {
+        return Ok(text);
+    }
+    text.extend_from_slice(b"yes\n")?;
+    if options.why {
+        put_why(
+            &mut text,
+            found.binding,
+            found.source,
+            found.rule_place,
+            found.subject_place,
+        )?;
+    }
+    Ok(text)
+}
+
+// The text that is printed for a no.
+fn no_text(
+    alloc: Global,
+    policy: &Policy,
+    request: Request<'_>,
+    options: VerdictOptions,
+) -> Result<Vec<u8>, AllocError>
+    ensures { IfOk result (λ text. (lacking : Text)
+        × FollowsNo policy.now (request_of request.entry) options.quiet options.why_not lacking
+        × (text.items ≡ line_unless options.quiet (codes "no") ++ lacking)) }
+{
+    let mut text = Vec::new(alloc);
+    if !options.quiet {
+        text.extend_from_slice(b"no\n")?;
+        if options.why_not {
+            put_near_grants(alloc, policy, request, &mut text)?;
+        }
+    }
+    Ok(text)
 }
 
 // Adds the lines of the near grants for a request.
@@ -80,52 +128,12 @@ fn put_near_grants(
     request: Request<'_>,
     text: &mut Vec<u8>,
 ) -> Result<(), AllocError>
-    ensures { OnOk result ((found : List Near) × AreNear policy.now (request_of request.entry) found
-        × (text.new.items ≡ text.old.items ++ flat_map (near_line policy.now) found)) }
+    ensures { OnOk result ((lines : Text) × AreNearLines policy.now (request_of request.entry) lines
+        × (text.new.items ≡ text.old.items ++ lines)) }
 {
     let found = near_grants(alloc, policy, request)?;
     for near in found.as_slice() {
         put_near(alloc, text, policy, *near)?;
     }
     Ok(())
-}
-
-// The text that is printed for a verdict, without near grants.
-fn text_of(
-    alloc: Global,
-    options: VerdictOptions,
-    found: &Option<Why>,
-) -> Result<Vec<u8>, AllocError>
-    ensures { IfOk result (λ text. text.items ≡ verdict_text options.quiet options.why found.now) }
-{
-    let mut text = Vec::new(alloc);
-    if options.quiet {
-        return Ok(text);
-    }
-    match found {
-        None => text.extend_from_slice(b"no\n")?,
-        Some(found) => {
-            text.extend_from_slice(b"yes\n")?;
-            if options.why {
-                put_why(
-                    &mut text,
-                    found.binding,
-                    found.source,
-                    found.rule_place,
-                    found.subject_place,
-                )?;
-            }
-        }
-    }
-    Ok(text)
-}
-
-fn status_of(found: &Option<Why>) -> Status
-    ensures { result ≡ verdict_status found.now }
-{
-    if found.is_some() {
-        Status::Zero
-    } else {
-        Status::One
-    }
 }
