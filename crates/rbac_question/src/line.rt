@@ -309,9 +309,10 @@ fn can_i_from(alloc: Global, line: &CanILine<'_, '_>) -> Result<Action, Question
     let user = line.user.as_bytes();
     let principal = principal_from(alloc, user, line.groups, line.whole_groups)?;
     let question = question_of(alloc, &line.question)?;
+    let options = line.options;
     Ok(Action::CanI {
         principal,
-        options: line.options,
+        options,
         question,
     })
 }
