@@ -76,11 +76,7 @@ pub(crate) fn verdict_of(
 }
 
 // The text that is printed for a yes.
-fn yes_text(
-    alloc: Global,
-    options: VerdictOptions,
-    found: Why<'_>,
-) -> Result<Vec<u8>, AllocError>
+fn yes_text(alloc: Global, options: VerdictOptions, found: Why<'_>) -> Result<Vec<u8>, AllocError>
     ensures { IfOk result (λ text. text.items ≡ yes_text options.quiet options.why found.entry) }
 {
     let mut text = Vec::new(alloc);

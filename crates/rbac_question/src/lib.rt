@@ -12,8 +12,9 @@ mod who;
 mod who_can_line;
 
 pub use asked::{Asked, AskedFor};
-pub use command::{Action, Change, Command, HolderOptions, MatrixOptions, Question};
-pub use command::VerdictOptions;
+pub use command::{
+    Action, Change, Command, HolderOptions, MatrixOptions, Question, VerdictOptions,
+};
 pub use fault::QuestionFault;
 pub use line::{CanILine, DiffLine, LintLine, MatrixLine, QuestionLine, RulesLine};
 pub use paths_line::PathsLine;
