@@ -147,6 +147,36 @@ def on_terminals(it):
     it.checked('nothing changes', got == (0, '', ''), got)
 
 
+# What kim's grants lack to delete pods in shop.
+LACKING = '''\
+no
+WHAT       HAS               BINDING                                  ROLE                     SOURCE                           RULE  SUBJECT
+namespace  shop-staging      RoleBinding/shop-staging/developers-own  Role/shop-staging/owner  Role/shop-staging/owner          1     1
+verb       [get,list,watch]  RoleBinding/shop/developers-view         ClusterRole/shop-view    ClusterRole/shop-view-workloads  1     1
+'''
+
+
+@in_each_shell
+def lacking(it):
+    """On a terminal a no says what grants lack, unless a format or -q asks for less; elsewhere with --why-not alone."""
+    it.run('export', 'prod')
+    line = ['can-i', '--export', 'prod', '--as', 'kim@example.com', '--groups', 'shop-developers', '-n', 'shop', 'delete', 'pods']
+    for words, wanted in (([], LACKING), (['-o', 'wide'], LACKING), (['--why'], LACKING), (['--why-not'], LACKING), (['-q'], ''), (['-o', 'tsv'], 'no\n'),
+                          (['-ojson'], '{"allowed":false}\n'), (['-o', 'name'], '')):
+        got = on_terminal(it, *line, *words, columns=200)
+        it.checked('a terminal %s' % words, got == (1, wanted, ''), got)
+    got = on_terminal(it, *line[:-2], 'list', 'pods', columns=200)
+    it.checked('a yes lacks nothing', got == (0, 'yes\n', ''), got)
+    for words, wanted in (([], 'no\n'), (['-o', 'table'], 'no\n'), (['--why-not', '-o', 'table'], LACKING)):
+        it.expect('a pipe %s' % words, [*line, *words], 1, wanted, '')
+    got = it.run(*line, '--why-not', '-o', 'json')
+    it.checked('as JSON', [json.loads(text) for text in got[1].splitlines()][1:] == [
+        {'what': 'namespace', 'has': 'shop-staging', 'binding': 'RoleBinding/shop-staging/developers-own', 'role': 'Role/shop-staging/owner',
+         'source': 'Role/shop-staging/owner', 'rule': 1, 'subject': 1},
+        {'what': 'verb', 'has': ['get', 'list', 'watch'], 'binding': 'RoleBinding/shop/developers-view', 'role': 'ClusterRole/shop-view',
+         'source': 'ClusterRole/shop-view-workloads', 'rule': 1, 'subject': 1}], got)
+
+
 @in_each_shell
 def refused(it):
     """What isn't known, before anything is read."""
@@ -485,4 +515,4 @@ def in_a_terminal():
         in_terminals()
 
 
-CHECKS = [formats, hostile_names, on_terminals, refused, without_filter, statuses, words_below, odd_words, colors, summaries, random_summaries, steps, in_a_terminal]
+CHECKS = [formats, hostile_names, on_terminals, lacking, refused, without_filter, statuses, words_below, odd_words, colors, summaries, random_summaries, steps, in_a_terminal]
