@@ -613,7 +613,7 @@ OPTIONS = ['-o', '--output', '--no-headers', '--color', '--rules', '--indirect',
 def helped():
     """Help, the man page and the completions have the same options, formats and fields."""
     status, text = told(SHOW, '--help')
-    same('help', (status, told(SHOW, '-h'), sorted(set(re.findall(r'(?<![\w-])--?[a-zA-Z][a-zA-Z-]*', text)) - {'--why', '--summary'})), (0, (0, text), sorted(OPTIONS)))
+    same('help', (status, told(SHOW, '-h'), sorted(set(re.findall(r'(?<![\w-])--?[a-zA-Z][a-zA-Z-]*', text)) - {'--why', '--why-not', '--summary'})), (0, (0, text), sorted(OPTIONS)))
     checked('help fits a screen', max(map(len, text.splitlines())) <= 80, text)
     for words in (['--version'], ['-V']):
         same('the version: %s' % words, told(SHOW, *words), (0, 'rbacaudit-show 0.1.0\n'))
