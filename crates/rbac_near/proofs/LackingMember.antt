@@ -1,8 +1,13 @@
 -- The first grant of a binding that lacks only a member.
-use Rattle.std.proofs.Common.{◌≡◌, ◌≤◌, ◌<◌, ◌↔◌, ◌∙◌, ℕ, Some, ap, refl, sym, subst, length, slice_get}
+use Rattle.std.proofs.Common.{◌≡◌, ◌≤◌, ◌<◌, ◌↔◌, ◌∙◌, ℕ, Option, Some, None, true, false, ap, refl, sym, subst, length, slice_get}
+use Rattle.std.specs.Option.{MatchOption, is_some}
 use Rattle.std.proofs.lemmas.Option.{same_Some}
+use Rattle.rbac_terms.specs.Granting.{Names}
 use Rattle.rbac_terms.specs.Matching.{RuleAllows}
+use Rattle.rbac_terms.specs.Principals.{Who}
 use Rattle.rbac_terms.specs.declared.granting.Binding.{Binding}
+use Rattle.rbac_terms.specs.declared.granting.Subject.{Subject}
+use Rattle.rbac_model.specs.Lists.{IsFirstAt}
 use Rattle.rbac_model.specs.Policies.{BindingNames, GrantView, IsOfBinding, Live, PolicyView}
 use Rattle.rbac_near.specs.Members.{IsFirstLacking, IsGrantOf, LackNoMember}
 use Rattle.rbac_near.specs.Near.{Lacks, RequestView}
@@ -11,6 +16,12 @@ use Rattle.rbac_near.specs.declared.near.Missing.TheVariants.{Member}
 -- no rule of the grants from one number up to another allows the request
 abbrev pub AllowsNone : PolicyView → RequestView → ℕ → ℕ → Type 0
 AllowsNone p q from end = (k : ℕ) (g : GrantView) → from ≤ k → k < end → slice_get p.grants k ≡ Some g → ¬ RuleAllows g.rule.rule q.verb q.target
+
+-- no subject was found that names who asks
+pub not_naming : (b : Binding) (who : Who) (o : Option ℕ) → is_some o ≡ false
+    → MatchOption o (¬ BindingNames b who) (λ at. (s : Subject) × IsFirstAt (λ s. Names s b.namespace who) b.subjects at s) → ¬ BindingNames b who
+not_naming b who None e m = m
+not_naming b who (Some i) e m = absurd (let both : true ≡ false = e in cc)
 
 -- the binding of a grant is the binding at the grant's place
 pub own_binding : (p : PolicyView) (n place : ℕ) (g : GrantView) (b : Binding) → slice_get p.grants n ≡ Some g → IsOfBinding p n place → slice_get p.held.bindings place ≡ Some b → g.binding ≡ b
