@@ -40,7 +40,7 @@ loop-number-preserved c =
     let i = c.in-Some.subject_place in
     elim c.match-missing_in.branch [
       | in-Some-missing_in+in_ok-push w ↦ rw (w.found-is, w.in_ok-push.ensures.items) (added_one p q c.args.place b there i c.in-Some.ensures n g c.grant.ensures.grant of c.missing_in.result c.missing_in.ensures old mid c.loop-number.invariant w.in-Some-missing_in.missing w.in-Some-missing_in.is)
-      | in_default-missing_in w ↦ rw w.found-is (added_none p q c.args.place b there i c.in-Some.ensures n g c.grant.ensures.grant of c.missing_in.result c.missing_in.ensures old mid c.loop-number.invariant ?)
+      | in_default-missing_in w ↦ rw w.found-is (added_none p q c.args.place b there i c.in-Some.ensures n g c.grant.ensures.grant of c.missing_in.result c.missing_in.ensures old mid c.loop-number.invariant w.in_default-missing_in.is)
     ]
 
 pub returns : goal.returns

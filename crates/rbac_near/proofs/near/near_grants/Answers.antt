@@ -31,7 +31,7 @@ returns c =
     ∙ ap (λ (es : List (Text × Near)). named ++ near_in es) gives.0 in
     let sorted = c.sort_unstable_by.ensures.sorted (λ x y. is_lt (near_cmp x y)) near_ranks
     (answers_by _ _ (λ f. Unit {0}) (λ f a r h called met. (search rules, tt)) _ tt) in
-    let once = dedup_same _ (eq_by_cmp near_cmp) _ (λ x y b f' x' y' k. search rules) _ _ c.dedup_by.ensures.filtered in
+    let once = dedup_same _ (eq_by_cmp near_cmp) _ (λ x y b f' x' y' k. search rules) ss ys c.dedup_by.ensures.filtered in
     let moved = c.sort_unstable_by.ensures.permutation in
     let each : (x : Near) → Contains xs x ↔ IsNear p q x = λ x. subst (λ (zs : List Near). Contains zs x ↔ IsNear p q x) (sym found)
     (all_near p q c.in_ok-found.ensures.policy named c.in_ok-found.ensures.named members gives.5 c.in_ok-members.ensures x) in
