@@ -12,10 +12,13 @@ returns-in_default c =
     let p = c.args.policy.now in
     let b = c.index-bindings-place.result in
     let there : slice_get p.held.bindings c.args.place ≡ Some b = slice_get_read _ _ _ _ refl c.requires (rw c.bindings.ensures.bindings at c.index-bindings-place.is) in
-    λ x. (λ h. inl h, λ w. elim w [
-      | inl h ↦ h
-      | inr h ↦ absurd (none_named p (request_of c.args.request) c.args.place b there c.in_default.ensures x h)
-    ])
+    λ x. (
+      λ h. inl h,
+      λ w. elim w [
+        | inl h ↦ h
+        | inr h ↦ absurd (none_named p (request_of c.args.request) c.args.place b there c.in_default.ensures x h)
+      ],
+    )
 
 pub loop-number-init : goal.loop-number-init
 loop-number-init c =
