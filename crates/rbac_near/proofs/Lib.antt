@@ -1,0 +1,8 @@
+pub mod Adding
+pub mod AllNear
+pub mod Gathering
+pub mod InOrder
+pub mod LackingMember
+pub mod NamedOf
+pub mod OneMissing
+pub mod Parts

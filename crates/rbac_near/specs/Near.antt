@@ -60,7 +60,7 @@ IsBeforeSubresource text part = ((rest : Text) × IsCutAtFirst text slash part r
 
 -- a rule's word is for the resource of that text, or for a subresource of it; a word for all
 -- resources is for none of them alone
-abbrev pub IsOfResource : Text → Text → Type 0
+unfoldable pub IsOfResource : Text → Text → Type 0
 IsOfResource text word = (part : Text) × IsBeforeSubresource text part
     × IsBeforeSubresource word part × (part ≢ []) × (part ≢ star ∷ [])
 

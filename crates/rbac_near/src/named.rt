@@ -1,6 +1,7 @@
 //! Near grants of the bindings that name who asks.
 
 ghost use Rattle.std.specs.Prelude.{◌<◌, ◌↔◌, ◌⊎◌, Contains, IfOk, OnOk, length};
+ghost use Rattle.rbac_model.specs.Policies.{IsPolicy};
 ghost use Rattle.rbac_near.specs.Named.{AreNamedUpTo, IsNamedOf};
 ghost use Rattle.rbac_near.specs.Near.{request_of};
 ghost use Rattle.rbac_near.specs.declared.near.Near.{Near};
@@ -16,8 +17,9 @@ pub(crate) fn named_of(
     policy: &Policy,
     request: Request<'_>,
 ) -> Result<Vec<Near>, AllocError>
-    ensures { IfOk result (λ found. AreNamedUpTo policy.now (request_of request.entry)
+    ensures named { IfOk result (λ found. AreNamedUpTo policy.now (request_of request.entry)
         (length policy.now.held.bindings) found.items) }
+    ensures policy { IsPolicy policy.now }
 {
     let mut found = Vec::new(alloc);
     let places = policy.bindings().len();

@@ -86,8 +86,8 @@ pub fn near_grants(
 {
     let mut found = named_of(alloc, policy, request)?;
     let members = members_of(alloc, policy, request)?;
-    for near in members.values() {
-        found.push(*near)?;
+    for (_, near) in members {
+        found.push(near)?;
     }
     found.sort_unstable_by(|a, b| cmp_near(*a, *b));
     found.dedup_by(|a, b| cmp_near(*a, *b).is_eq());
@@ -99,5 +99,9 @@ fn cmp_near(a: Near, b: Near) -> Ordering
     ensures { result ≡ near_cmp a b }
 {
     let missing = a.missing.rank().cmp(&b.missing.rank());
-    missing.then(a.number.cmp(&b.number).then(a.subject_place.cmp(&b.subject_place)))
+    missing.then(
+        a.number
+            .cmp(&b.number)
+            .then(a.subject_place.cmp(&b.subject_place)),
+    )
 }
