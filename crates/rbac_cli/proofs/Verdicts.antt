@@ -57,3 +57,7 @@ module _ (l : LoadedView) (who : Who) (q : Question) (target : What) (namespace 
       → ComesAfterNo l.policy l.catalogue.entries who quiet not_told q lacking
   after_no true is_namespaced quiet not_told lacking outside is follows = (target, namespace, is_namespaced, meant, (λ e. absurd (true≢false (sym e ∙ is)), λ inside. absurd (inside (outside.0 refl))), follows)
   after_no false is_namespaced quiet not_told lacking outside is follows = (target, namespace, is_namespaced, meant, (λ e h. true≢false (sym (outside.1 h)), λ inside. is), follows)
+
+-- the number of a near grant is that of a grant
+pub near_within : (p : PolicyView) (q : RequestView) (xs : List Near) → AreNear p q xs → (x : Near) → Contains xs x → x.number < length p.grants
+near_within p q xs are x c = let w = (are.exact x).0 c in slice_get_within p.grants x.number w.grant w.here

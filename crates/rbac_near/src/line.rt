@@ -3,6 +3,7 @@
 ghost use Rattle.std.specs.Prelude.{◌≡◌, ◌++◌, ◌<◌, IfOk, OnOk, length};
 ghost use Rattle.std.specs.Option.{option_copied};
 ghost use Rattle.rbac_model.specs.Sources.{grant_of};
+ghost use Rattle.rbac_text.specs.Field.{field_text};
 ghost use Rattle.rbac_near.specs.NearLines.{group_key, has_text, missing_word, namespace_text};
 ghost use Rattle.rbac_near.specs.NearLines.{near_line};
 
@@ -71,10 +72,7 @@ fn put_has(
         Missing::Group => put_list(line, &grant.rule.groups),
         Missing::Subresource => put_list(line, &grant.rule.resources),
         Missing::Name => put_list(line, &grant.rule.resource_names),
-        Missing::Member => {
-            let key = group_key(alloc, subjects.get(near.subject_place))?;
-            put_field(line, key.as_bytes())
-        }
+        Missing::Member => put_group(alloc, line, subjects.get(near.subject_place)),
     }
 }
 
@@ -87,6 +85,15 @@ fn put_namespace(line: &mut Vec<u8>, namespace: Option<&Word>) -> Result<(), All
         Some(namespace) => put_field(line, namespace.as_bytes()),
         None => put_field(line, b"".as_slice()),
     }
+}
+
+// Adds the key of the group that a subject is for, as a field; empty for any other subject.
+fn put_group(alloc: Global, line: &mut Vec<u8>, subject: Option<&Subject>) -> Result<(), AllocError>
+    ensures { OnOk result (line.new.items ≡ line.old.items
+        ++ field_text (group_key (option_copied subject.entry))) }
+{
+    let key = group_key(alloc, subject)?;
+    put_field(line, key.as_bytes())
 }
 
 // The key of the group that a subject is for; empty for any other subject.
