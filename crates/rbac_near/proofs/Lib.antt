@@ -4,5 +4,5 @@ pub mod Gathering
 pub mod InOrder
 pub mod LackingMember
 pub mod NamedOf
-pub mod OneMissing
+pub mod OfTarget
 pub mod Parts

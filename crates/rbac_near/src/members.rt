@@ -1,6 +1,7 @@
 //! Near grants to groups.
 
-ghost use Rattle.std.specs.Prelude.{◌<◌, IfOk, MatchOption, OnOk, length};
+ghost use Rattle.std.specs.Prelude.{◌<◌, ◌↔◌, IfOk, IsTrue, MatchOption, OnOk, length};
+ghost use Rattle.rbac_model.specs.Policies.{BindingNames, Live};
 ghost use Rattle.rbac_near.specs.Members.{AddsGroups, FindsMembers, IsFirstLacking, LackNoMember};
 ghost use Rattle.rbac_near.specs.Near.{request_of};
 
@@ -39,11 +40,7 @@ fn first_lacking(policy: &Policy, request: Request<'_>, place: usize) -> Option<
     ensures { MatchOption result (LackNoMember policy.now (request_of request.entry) place)
         (IsFirstLacking policy.now (request_of request.entry) place) }
 {
-    let binding = &policy.bindings()[place];
-    if !is_live(binding, request.namespace, request.target) {
-        return None;
-    }
-    if naming_place(binding, request.who).is_some() {
+    if !counts_for_others(&policy.bindings()[place], request) {
         return None;
     }
     let (from, end) = policy.grants_of(place);
@@ -53,6 +50,16 @@ fn first_lacking(policy: &Policy, request: Request<'_>, place: usize) -> Option<
         }
     }
     None
+}
+
+// Whether the binding counts where the request is made, and doesn't name who asks.
+fn counts_for_others(binding: &Binding, request: Request<'_>) -> bool
+    ensures { IsTrue result
+        ↔ (Live binding.now.namespace request.entry.namespace.now request.entry.target.now
+        × (¬ BindingNames binding.now request.entry.who.now)) }
+{
+    is_live(binding, request.namespace, request.target)
+        && naming_place(binding, request.who).is_none()
 }
 
 // Adds the near grant with this number for each group of its binding that has none yet.

@@ -1,6 +1,6 @@
 use Rattle.rbac_model.specs.Sources.{grant_of}
 use Rattle.rbac_near.specs.Near.{request_of}
-use Rattle.rbac_near.proofs.OneMissing.{of_target}
+use Rattle.rbac_near.proofs.OfTarget.{of_target}
 use Rattle.rbac_near.proofs.lacking.missing_in.Goals as goal
 
 pub returns : goal.returns

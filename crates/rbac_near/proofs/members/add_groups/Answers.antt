@@ -1,4 +1,4 @@
-use Rattle.std.proofs.Common.{◌≡◌, ◌+◌, ◌++◌, ◌∷◌, [], ◌∙◌, List, Option, Some, ap, length, refl, rules, slice_get, subst, sym, take}
+use Rattle.std.proofs.Common.{◌≡◌, ◌+◌, ◌++◌, ◌∷◌, [], ◌∙◌, List, Some, ap, length, refl, rules, slice_get, subst, sym, take}
 use Rattle.std.specs.BTreeMap.{get}
 use Rattle.std.specs.BTreeMap.Entry.{map_with_value}
 use Rattle.std.specs.Option.{unwrap_or}
@@ -34,8 +34,8 @@ loop-place-preserved c =
           let x : Near = record { missing = Member; number = n; subject_place = i } in
           let new = map_with_value entry v in
           let same : name ≡ group = w.in_ok-name.ensures ∙ w.as_bytes.ensures in
-          let put : IsPutUnless name x old new = put_unless name x v old new (get text_cmp old name) refl
-          (w.or_insert.ensures.value ∙ ap (λ (o : Option Near). unwrap_or o x) w.in_ok-found.ensures.value) (w.in_ok-found.ensures.update.0 v).0 in
+          let value : v ≡ unwrap_or (get text_cmp old name) x = cc (w.or_insert.ensures.value, w.in_ok-found.ensures.value) in
+          let put : IsPutUnless name x old new = put_unless name x v old new (get text_cmp old name) refl value (w.in_ok-found.ensures.update.0 v).0 in
           let is : s ≡ ForGroup group = w.in-Group.is in
           let first : slice_get subjects i ≡ Some (ForGroup group) = ap (λ (xs : List Subject). slice_get xs i) (sym of) ∙ here ∙ ap (λ (z : Subject). Some z) is in
           let adds : AddsOf n subjects (take i subjects) c.args.found.now old = subst (λ (xs : List Subject). AddsOf n subjects (take i xs) c.args.found.now old) of c.loop-place.invariant in

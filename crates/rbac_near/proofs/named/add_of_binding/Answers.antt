@@ -1,8 +1,9 @@
-use Rattle.std.proofs.Common.{◌≡◌, ◌+◌, Some, arith, inl, inr, refl, slice_get, subst}
+use Rattle.std.proofs.Common.{◌≡◌, ◌+◌, ◌++◌, ◌∷◌, [], Some, arith, inl, inr, refl, slice_get, subst}
 use Rattle.std.proofs.lemmas.Option.{slice_get_read}
 use Rattle.rbac_model.specs.Policies.{IsOfBinding}
 use Rattle.rbac_model.specs.Sources.{grant_of}
 use Rattle.rbac_near.specs.Near.{request_of}
+use Rattle.rbac_near.specs.declared.near.Near.{Near}
 use Rattle.rbac_near.proofs.NamedOf.{added_none, added_one, all_added, none_named, nothing_added}
 use Rattle.rbac_near.proofs.named.add_of_binding.Goals as goal
 use Rattle.rbac_near.proofs.named.add_of_binding.Goals.{in-Some-missing_in+in_ok-push, in_default-missing_in}
@@ -42,7 +43,10 @@ loop-number-preserved c =
     let mid = c.loop-number.found.items in
     let i = c.in-Some.subject_place in
     elim c.match-missing_in.branch [
-      | in-Some-missing_in+in_ok-push w ↦ rw (w.found-is, w.in_ok-push.ensures.items) (added_one p q c.args.place b there i c.in-Some.ensures n g c.grant.ensures.grant of c.missing_in.result c.missing_in.ensures old mid c.loop-number.invariant w.in-Some-missing_in.missing w.in-Some-missing_in.is)
+      | in-Some-missing_in+in_ok-push w ↦ (let m = w.in-Some-missing_in.missing in
+          let x : Near = record { missing = m; number = n; subject_place = i } in
+          let items : w.push.new.self.items ≡ mid ++ x ∷ [] = cc w.in_ok-push.ensures.items in
+          rw (w.found-is, items) (added_one p q c.args.place b there i c.in-Some.ensures n g c.grant.ensures.grant of c.missing_in.result c.missing_in.ensures old mid c.loop-number.invariant m w.in-Some-missing_in.is))
       | in_default-missing_in w ↦ rw w.found-is (added_none p q c.args.place b there i c.in-Some.ensures n g c.grant.ensures.grant of c.missing_in.result c.missing_in.ensures old mid c.loop-number.invariant w.in_default-missing_in.is)
     ]
 
