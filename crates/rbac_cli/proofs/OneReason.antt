@@ -13,7 +13,7 @@ use Rattle.rbac_text.specs.Why.{why_text}
 use Rattle.rbac_near.specs.Near.{RequestView}
 use Rattle.rbac_near.specs.NearLines.{near_line}
 use Rattle.rbac_near.specs.declared.near.Near.{Near}
-use Rattle.rbac_near.proofs.OneNear.{one_near}
+use Rattle.rbac_near.proofs.InOrder.{one_near_list}
 use Rattle.rbac_cli.specs.Meant.{IsOutside, request_meant}
 use Rattle.rbac_cli.specs.Out.{IsWhyText, ComesAfterNo, ComesAfterYes, FollowsNo}
 use Rattle.rbac_cli.proofs.OneMeant.{one_meant}
@@ -47,7 +47,7 @@ module _ (p : PolicyView) (entries : List Entry) (who : Who) (q : Question) (tex
       e ∙ one_line p who m q.verb u g k i j here are ∙ sym d
 
   follows_one : (request : RequestView) (quiet why_not : Bool) → FollowsNo p request quiet why_not text → FollowsNo p request quiet why_not other → text ≡ other
-  follows_one request false true (xs, are, e) (ys, those, d) = e ∙ ap (λ (found : List Near). flat_map (near_line p) found) (one_near p request xs ys are those) ∙ sym d
+  follows_one request false true (xs, are, e) (ys, those, d) = e ∙ ap (λ (found : List Near). flat_map (near_line p) found) (one_near_list p request xs ys are those) ∙ sym d
   follows_one request false false a b = a ∙ sym b
   follows_one request true why_not a b = a ∙ sym b
 
