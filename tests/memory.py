@@ -448,6 +448,10 @@ def answers():
     yield Case('can-i of a URL', [*ALICE, 'get', '/healthz/ready'], export(*WORKED), 0, 'yes\n')
     yield Case('can-i --why', ['can-i', '--as', 'kim', '--groups', 'ops,dev', '--why', 'get', 'pods'], export(*WORKED), 0,
                'yes\nClusterRoleBinding/a\tClusterRole/admin\tClusterRole/%s\t1\t1\n' % LONG)
+    yield Case('can-i --why-not', ['can-i', '--as', 'kim', '--why-not', 'get', 'pods'], export(*WORKED), 1,
+               'no\nmember\tg:dev\tClusterRoleBinding/a\tClusterRole/admin\tClusterRole/%s\t1\t1\n' % LONG)
+    yield Case('can-i --why-not, a name', ['can-i', '--as', 'bob-who-has-a-rather-long-name', '-n', 'dev', '--why-not', 'delete', 'pods/b'],
+               export(*WORKED), 1, 'no\nname\t[a]\tRoleBinding/dev/b\tRole/dev/r\tRole/dev/r\t1\t2\n')
     yield Case('can-i -q', [*ALICE, '-q', 'get', 'po'], export(*WORKED), 0)
     yield few_holders()
     yield few_reasons()
