@@ -1,11 +1,13 @@
 -- A verdict, its text and its status.
-use Rattle.std.proofs.Common.{◌≡◌, ◌∙◌, ◌↔◌, ◌++◌, Bool, true, false, not, true≢false, List, [], codes, refl, sym, inl, inr, append-nil}
+use Rattle.std.proofs.Common.{◌≡◌, ◌∙◌, ◌↔◌, ◌++◌, ◌<◌, ℕ, Bool, true, false, not, true≢false, List, [], Some, codes, length, slice_get, refl, sym, inl, inr, append-nil}
 use Rattle.std.proofs.lemmas.Option.{slice_get_within, get_or_from_slice_get}
 use Rattle.rbac_terms.specs.Text.{Text}
 use Rattle.rbac_terms.specs.Targets.{What}
 use Rattle.rbac_terms.specs.Principals.{Who}
 use Rattle.rbac_terms.specs.declared.granting.Binding.{Binding}
-use Rattle.rbac_model.specs.Policies.{Held, Allows, IsFirst}
+use Rattle.rbac_model.specs.Policies.{Held, Allows, IsFirst, PolicyView}
+use Rattle.rbac_near.specs.Near.{AreNear, RequestView}
+use Rattle.rbac_near.specs.declared.near.Near.{Near}
 use Rattle.rbac_catalogue.specs.declared.entry.Entry.{Entry}
 use Rattle.rbac_model.specs.declared.why.Why.{Why}
 use Rattle.rbac_index.specs.Deciding.{IsWhyShown}
@@ -59,5 +61,5 @@ module _ (l : LoadedView) (who : Who) (q : Question) (target : What) (namespace 
   after_no false is_namespaced quiet not_told lacking outside is follows = (target, namespace, is_namespaced, meant, (λ e h. true≢false (sym (outside.1 h)), λ inside. is), follows)
 
 -- the number of a near grant is that of a grant
-pub near_within : (p : PolicyView) (q : RequestView) (xs : List Near) → AreNear p q xs → (x : Near) → Contains xs x → x.number < length p.grants
-near_within p q xs are x c = let w = (are.exact x).0 c in slice_get_within p.grants x.number w.grant w.here
+pub near_within : (p : PolicyView) (q : RequestView) (xs : List Near) → AreNear p q xs → (k : ℕ) (x : Near) → slice_get xs k ≡ Some x → x.number < length p.grants
+near_within p q xs are k x at = let w = (are.exact x).0 (k, slice_get_within xs k x at, get_or_from_slice_get xs k x x at) in slice_get_within p.grants x.number w.grant w.here
