@@ -112,7 +112,7 @@ def commands(it):
 
 # Commands whose rows have colors: the codes of each row.
 COLORS = {'can-i --why': ['', ''], 'who-can': ['', ''], 'rules': ['', ''], 'lint': [''] * 5, 'powers': [''] * 3, 'paths': [''] * 5, 'who-can --indirect': [''] * 7,
-          'diff': ['1;32', '31', '31'], 'matrix': ['', '', '1', ''], 'diff --summary': ['1;32', '31', '1', '1']}
+          'diff': ['1;32', '1;31', '31'], 'matrix': ['', '', '1', ''], 'diff --summary': ['1;32', '31', '1', '1']}
 
 
 def colored(table, codes):
