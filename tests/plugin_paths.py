@@ -5,7 +5,7 @@ import os
 
 from common import V1
 from plugin_questions import stale_with
-from plugin_room import (CAUTION, CI_KEY, IMPLIED, NO_ACCOUNT, NO_GROUP, NO_GROUPS, NO_SPACE, NO_USER, REFUSAL, SCOPED, UNLISTED, in_each_shell, of_kinds, served)
+from plugin_room import (CAUTION, CI_KEY, IMPLIED, MOUNTS, NO_ACCOUNT, NO_GROUP, NO_GROUPS, NO_SPACE, NO_USER, REFUSAL, SCOPED, UNLISTED, in_each_shell, of_kinds, served)
 
 IDLER = 'u:system:serviceaccount:shop:idler'
 BY_CI = '1\t%s\t-\t%s\t-\trun\tRoleBinding/shop/ci-deploys\tRole/shop/deployer\tRole/shop/deployer\t1\t1\n' % (IDLER, CI_KEY)
@@ -138,7 +138,7 @@ def stale_paths(it):
     line = '1\tu:system:serviceaccount:%s\t-\tu:kim\t-\tsecrets\tClusterRoleBinding/b\tClusterRole/a\tClusterRole/part\t1\t1\n'
     lines = ''.join(line % name for name in ('monitoring:prometheus', 'shop:ci'))
     said = ('kubectl-rbacaudit: the cluster has other paths now, because of stale aggregates (L6 of lint): ClusterRole/a\n')
-    for written, gathered, out, err in (('get', 'delete', '', said), ('delete', 'get', lines, said), ('list', 'get', lines, ''), ('update', 'delete', '', '')):
+    for written, gathered, out, err in (('get', 'use', '', said), ('use', 'get', lines, said), ('list', 'delete', lines, ''), ('approve', 'use', '', '')):
         it.serve({'cluster': stale_with(written, gathered), 'namespaced': of_kinds([])})
         it.run('export', '--force', 'prod')
         for place in ([], ['--export', 'prod']):
@@ -156,12 +156,12 @@ def stale_ways(it):
     line = '0\tu:kim\t-\t-\t-\t-\tClusterRoleBinding/b\tClusterRole/a\tClusterRole/part\t1\t1\n'
     said = ('kubectl-rbacaudit: the cluster has other paths now, because of stale aggregates (L6 of lint): ClusterRole/a\n')
     asked = ['who-can', '--indirect', '-A', 'get', 'secrets']
-    for written, gathered, out, err in (('get', 'delete', '', said), ('delete', 'get', line, said), ('*', 'get', line, ''), ('update', 'delete', '', '')):
+    for written, gathered, out, err in (('get', 'use', '', said), ('use', 'get', line, said), ('*', 'get', line, ''), ('approve', 'use', '', '')):
         it.serve({'cluster': stale_with(written, gathered), 'namespaced': of_kinds([]), 'accounts': of_kinds([])})
         it.run('export', '--force', 'prod')
         for place in ([], ['--export', 'prod']):
             it.expect('who comes to secrets by a stale aggregate: %s, %s %s' % (written, gathered, place), [*asked, *place], 0, out,
-                      UNLISTED % 'type secrets' + err)
+                      UNLISTED % 'type secrets' + MOUNTS % ('secrets', '--indirect -A ') + err)
 
 
 CHECKS = [paths, ways, stale_paths, stale_ways]

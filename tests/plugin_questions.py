@@ -199,13 +199,15 @@ def rules(it):
               VIEW_RULES)
 
 
-# What the developers, the admin and the CI account of the example have: a RoleBinding doesn't give nodes, certificates and webhooks.
-STEPS = 'impersonate token run exec secrets nodes bind escalate certificates webhooks'.split()
+# What the developers, the admin and the CI account of the example have: a RoleBinding doesn't give what only a ClusterRoleBinding gives, nor bootstrap
+# outside kube-system.
+STEPS = 'impersonate token run exec secrets nodes bind escalate certificates webhooks apiservices bootstrap volumes namespaces'.split()
+OF_CLUSTER = 'nodes certificates webhooks apiservices bootstrap volumes'.split()
 OF_DEVELOPERS = 'g:shop-developers\tshop-staging\tRoleBinding/shop-staging/developers-own\tRole/shop-staging/owner\tRole/shop-staging/owner\t1\t1\n'
 OF_DANA = 'u:dana@example.com\t*\tClusterRoleBinding/admins\tClusterRole/cluster-admin\tClusterRole/cluster-admin\t1\t1\n'
 OF_CI = CI_KEY + '\tshop\tRoleBinding/shop/ci-deploys\tRole/shop/deployer\tRole/shop/deployer\t1\t1\n'
 POWERS = ''.join('%s\t%s' % (step, line) for step in STEPS for line in (OF_DEVELOPERS, OF_DANA, OF_CI)
-                 if line == OF_DANA or step == 'run' or (line == OF_DEVELOPERS and step not in ('nodes', 'certificates', 'webhooks')))
+                 if line == OF_DANA or step == 'run' or (line == OF_DEVELOPERS and step not in OF_CLUSTER))
 POWERS_WIDE = '''\
 STEP  WHO                              WHERE         BINDING                                  ROLE                       SOURCE                     RULE  SUBJECT
 run   g:shop-developers                shop-staging  RoleBinding/shop-staging/developers-own  Role/shop-staging/owner    Role/shop-staging/owner    1     1
@@ -402,7 +404,7 @@ def stale_powers(it):
     """A stale aggregate is reported where the cluster gives other powers: neither by another rule, nor by nothing."""
     line = 'secrets\tu:kim\t*\tClusterRoleBinding/b\tClusterRole/a\tClusterRole/part\t1\t1\n'
     said = ('kubectl-rbacaudit: the cluster has other powers now, because of stale aggregates (L6 of lint): ClusterRole/a\n')
-    for written, gathered, out, err in (('get', 'delete', '', said), ('delete', 'get', line, said), ('list', 'get', line, ''), ('update', 'delete', '', '')):
+    for written, gathered, out, err in (('get', 'use', '', said), ('use', 'get', line, said), ('list', 'delete', line, ''), ('approve', 'use', '', '')):
         it.serve({'cluster': stale_with(written, gathered), 'namespaced': of_kinds([])})
         it.run('export', '--force', 'prod')
         for place in ([], ['--export', 'prod']):

@@ -7,7 +7,7 @@ import subprocess
 
 from common import V1
 from plugin_changes import GAINED, OVER, ROLE, read
-from plugin_room import (DANA, DEVELOPERS, IMPLIED, KIM, NO_ACCOUNT, NO_GROUP, NO_GROUPS, NO_SPACE,
+from plugin_room import (DANA, DEVELOPERS, IMPLIED, KIM, MOUNTS, NO_ACCOUNT, NO_GROUP, NO_GROUPS, NO_SPACE,
                          NO_USER, NO_VERB, PLUGIN, RBAC, REPEATED, SCOPED, UNLISTED, URL_SCOPED,
                          in_each_shell, of_kinds, repeats, served)
 from written import FILTER
@@ -150,6 +150,42 @@ def bound_types(it):
     status, out, err = got = it.run('matrix', '--export', 'prod', 'u.json')
     row = 'u:pat\tshop\tbind\t%s\tclusterroles\t-\tRoleBinding/shop/team\n'
     it.checked('its matrix', (status, err) == (0, REPEATED % repeats(out)) and row % RBAC in out and row % 'other.example.com' not in out, got)
+
+
+@in_each_shell
+def mounts(it):
+    """Whoever may create pods mounts secrets and config maps: who-can names that question under those about reading them, once and nowhere else."""
+    core = served()['api-v1']
+    core['resources'] += [{'name': name, 'singularName': name[:-1], 'shortNames': short, 'namespaced': True, 'verbs': ['create', 'get', 'list', 'watch']}
+                          for name, short in (('secrets', []), ('configmaps', ['cm']))]
+    it.serve({'api-v1': core, 'api-apps-v1': listed('other.example.com/v1', ('secrets', 'hidden', True))})
+    it.run('export', 'prod')
+    who = ['who-can', '--export', 'prod']
+    # (the words with which who-can create pods is about the same place)
+    for words, type_, where in (
+            (['-A', 'get', 'secrets'], 'secrets', '-A '), (['-A', '-n', 'shop', 'list', 'secret'], 'secrets', '-A '), (['--anywhere', 'watch', 'cm/app'], 'configmaps', '--anywhere '),
+            (['-n', 'shop', 'get', 'configmaps'], 'configmaps', '-n shop '), (['-nshop', '--any-name', 'list', 'secrets.'], 'secrets', '-n shop '),
+            (['--indirect', '-n', 'shop', 'get', 'secrets'], 'secrets', '--indirect -n shop ')):
+        status, out, err = got = it.run(*who, *words)
+        it.checked('mounts: %s' % words, (status, err) == (0, MOUNTS % (type_, where)), got)
+    it.expect('mounts: in the namespace of the context', [*who, 'get', 'secrets'], 0, DANA, MOUNTS % ('secrets', '') + IMPLIED % 'default')
+    for words in (['-A', 'create', 'secrets'], ['-A', '*', 'secrets'], ['-A', 'get', 'pods'], ['-A', 'get', 'secrets.other.example.com'], ['-A', 'get', 'hidden.other.example.com'],
+                  ['-A', 'get', '/secrets']):
+        status, out, err = got = it.run(*who, *words)
+        it.checked('mounts: nothing of %s' % words, status == 0 and 'mounting' not in err, got)
+    for words in (['-A', '--subresource', 'x', 'get', 'secrets'], ['-A', 'get', 'secretss']):
+        status, out, err = got = it.run(*who, *words)
+        it.checked('mounts: nothing of %s' % words, status == 0 and "don't have" in err and 'mounting' not in err, got)
+    for words in (['can-i', '--as', 'dana@example.com', '-A', 'get', 'secrets'], ['rules', 'u:dana@example.com'], ['paths', 'u:dana@example.com']):
+        status, out, err = got = it.run(*words, '--export', 'prod')
+        it.checked('mounts: nothing of %s' % words[0], (status, err) == (0, ''), got)
+    for name in it.files('prod'):
+        if name.startswith('api-'):
+            os.remove(os.path.join(it.work, 'prod', name))
+    status, out, err = got = it.run(*who, '--partial', '-n', 'shop', 'get', 'secrets.')
+    it.checked('mounts: a type taken as written', status == 0 and err.endswith('taken as written\n' + MOUNTS % ('secrets', '-n shop ')), got)
+    status, out, err = got = it.run(*who, '--partial', '-n', 'shop', 'get', 'secrets.other.example.com')
+    it.checked('mounts: nothing of one of another group', status == 0 and err.endswith('taken as written\n'), got)
 
 
 # ---- verbs
@@ -385,4 +421,4 @@ def universe_in_change(it):
               + OVER % 'change')
 
 
-CHECKS = [repeated, universe_in_change, places, scopes, unlisted, bound_types, verbs, users, accounts, groups, named_in_files]
+CHECKS = [repeated, universe_in_change, places, scopes, unlisted, bound_types, mounts, verbs, users, accounts, groups, named_in_files]

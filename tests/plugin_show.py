@@ -21,16 +21,21 @@ from written import steps as steps_of_behaviour
 PACKAGE = os.path.join(os.path.dirname(PLUGIN), 'rbacaudit_kubectl')
 RBAC = 'rbac.authorization.k8s.io'
 ADMISSION = 'admissionregistration.k8s.io'
-# The powers: each with its verbs and types, whether a ClusterRoleBinding alone gives it, and whether a rule for some names does.
+CSR = 'certificatesigningrequests/'
+# The powers: each with its verbs and types, and where a binding has to be that gives it: anywhere, in the cluster alone, or there and in one namespace.
 POWERS = [
-    ('impersonate', 'impersonate', 'users groups', True, True), ('impersonate', 'impersonate', 'serviceaccounts', False, True),
-    ('token', 'create', 'serviceaccounts/token', False, True), ('run', 'create', 'pods jobs.batch', False, False),
-    ('run', 'create update patch', 'replicationcontrollers daemonsets.apps deployments.apps replicasets.apps statefulsets.apps cronjobs.batch', False, False),
-    ('exec', 'create get', 'pods/attach pods/exec', False, False), ('exec', 'update patch', 'pods pods/ephemeralcontainers', False, False),
-    ('secrets', 'get list watch', 'secrets', False, False), ('nodes', 'create get', 'nodes/proxy', True, False),
-    ('bind', 'bind', 'clusterroles.%s roles.%s' % (RBAC, RBAC), False, True), ('escalate', 'escalate', 'clusterroles.' + RBAC, True, True),
-    ('escalate', 'escalate', 'roles.' + RBAC, False, True), ('certificates', 'update patch', 'certificatesigningrequests/approval.certificates.k8s.io', True, False),
-    ('webhooks', 'create update patch', 'mutatingwebhookconfigurations.%s validatingwebhookconfigurations.%s' % (ADMISSION, ADMISSION), True, False)]
+    ('impersonate', 'impersonate', 'users groups', 'cluster'), ('impersonate', 'impersonate', 'serviceaccounts', ''),
+    ('token', 'create', 'serviceaccounts/token', ''), ('run', 'create', 'pods jobs.batch', ''),
+    ('run', 'create update patch', 'replicationcontrollers daemonsets.apps deployments.apps replicasets.apps statefulsets.apps cronjobs.batch controllerrevisions.apps', ''),
+    ('exec', 'create get', 'pods/attach pods/exec', ''), ('exec', 'update patch', 'pods pods/ephemeralcontainers', ''),
+    ('secrets', 'get list watch update patch delete deletecollection', 'secrets', ''), ('nodes', 'create get', 'nodes/proxy', 'cluster'),
+    ('bind', 'bind', 'clusterroles.%s roles.%s' % (RBAC, RBAC), ''), ('escalate', 'escalate', 'clusterroles.' + RBAC, 'cluster'), ('escalate', 'escalate', 'roles.' + RBAC, ''),
+    ('certificates', 'update patch', CSR + 'approval.certificates.k8s.io', 'cluster'),
+    ('certificates', 'create', ' '.join(CSR + it + '.certificates.k8s.io' for it in ('nodeclient', 'selfnodeclient')), 'cluster'),
+    ('webhooks', 'create update patch', ' '.join('%s.%s' % (it, ADMISSION) for it in (
+        'mutatingwebhookconfigurations', 'validatingwebhookconfigurations', 'mutatingadmissionpolicies', 'mutatingadmissionpolicybindings')), 'cluster'),
+    ('apiservices', 'create update patch', 'apiservices.apiregistration.k8s.io', 'cluster'), ('bootstrap', 'create update patch', 'secrets', 'kube-system'),
+    ('volumes', 'create', 'persistentvolumes', 'cluster'), ('namespaces', 'update patch', 'namespaces', '')]
 ORDER = list(dict.fromkeys(power for power, *_ in POWERS))
 
 
@@ -293,16 +298,22 @@ def word_matches(word, text):
     return word in ('*', text)
 
 
+def has_name(verb, type_):
+    """Whether a request has an object's name: not to delete many at once, nor to create, but for what is below an object that is there."""
+    is_of_node = type_.partition('.')[0] in (CSR + 'nodeclient', CSR + 'selfnodeclient')
+    return {'create': '/' in type_ and not is_of_node, 'deletecollection': False}.get(verb, True)
+
+
 def powers_of(change):
     """The powers of a line of diff, by their definition: a set of names."""
     _, _, namespace, verb, group, resource, name, _ = change
     found = set()
-    for power, verbs, types, in_cluster, named in POWERS:
+    for power, verbs, types, place in POWERS:
         for type_ in types.split():
             plural, _, of = type_.partition('.')
             sub = plural.partition('/')[2]
-            if (namespace != '-' and (namespace == '*' or not in_cluster) and (name in ('*', '-') or named)
-                    and any(word_matches(verb, it) for it in verbs.split()) and word_matches(group, of or '-')
+            if (namespace != '-' and (namespace == '*' or place in ('', namespace)) and word_matches(group, of or '-')
+                    and any(word_matches(verb, it) and (name in ('*', '-') or has_name(it, type_)) for it in verbs.split())
                     and (word_matches(resource, plural) or sub and resource == '*/' + sub)):
                 found.add(power)
     return found
@@ -332,8 +343,8 @@ MIXED = [
 # (what a ClusterRoleBinding of a role has, a RoleBinding to it has too, so its line is there all the same: each permission is compared with the other side)
 SUMMARY = [
     'u:dana * ClusterRoleBinding/admins 1 0 %s []' % ALL, 'u:dana - ClusterRoleBinding/admins 2 0 [] []',
-    'u:kim * ClusterRoleBinding/few 6 0 [impersonate,token,bind,escalate] []',
-    'u:kim shop RoleBinding/shop/dev 4 0 [run,secrets] []', 'u:kim shop RoleBinding/shop/few 6 0 [token,bind] []',
+    'u:kim * ClusterRoleBinding/few 6 0 [impersonate,token,secrets,bind,escalate] []',
+    'u:kim shop RoleBinding/shop/dev 4 0 [run,secrets] []', 'u:kim shop RoleBinding/shop/few 6 0 [token,secrets,bind] []',
     'u:lee * ClusterRoleBinding/proxy 2 0 [nodes] []', 'u:lee shop RoleBinding/shop/proxy 2 0 [] []',
     'total - - 23 0 %s []' % ALL]
 
@@ -387,7 +398,7 @@ def summaries(it):
 def random_summaries(it):
     """Random changes: the summary is what their lines say."""
     chosen = random.Random(7)
-    verbs = sorted({verb for _, verbs, *_ in POWERS for verb in verbs.split()} | {'*', 'delete'})
+    verbs = sorted({verb for _, verbs, *_ in POWERS for verb in verbs.split()} | {'*', 'use'})
     types = sorted({type_ for _, _, types, *_ in POWERS for type_ in types.split()} | {'services', '*', '*.apps', '*/exec', '*/token', 'pods/*', 'a,secrets', '*,pods'})
 
     def some_rule():
@@ -399,7 +410,7 @@ def random_summaries(it):
     def some():
         for at in range(25):
             yield role('r%d' % at, *(some_rule() for _ in range(chosen.randrange(4))))
-            yield bound('b%d' % at, 'r%d' % at, *chosen.sample(['kim', 'k', 'k!', 'lee'], 2), namespace=chosen.choice([None, 'dev', '*', 'dev-1']))
+            yield bound('b%d' % at, 'r%d' % at, *chosen.sample(['kim', 'k', 'k!', 'lee'], 2), namespace=chosen.choice([None, 'dev', '*', 'dev-1', 'kube-system']))
 
     for turn in range(3):
         before, after = 'before%d' % turn, 'after%d' % turn
@@ -413,8 +424,8 @@ def random_summaries(it):
 
 TABLE = '''import json, sys
 sys.path.insert(0, sys.argv[1])
-from rbacaudit_kubectl.fields import STEPS
-print(json.dumps(STEPS))
+from rbacaudit_kubectl.fields import STEPS, has_name
+print(json.dumps([[name, verb, type_, where, has_name(verb, type_)] for name, verbs, types, where in STEPS for type_ in types.split() for verb in verbs.split()]))
 '''
 SUMMARY_OF = '''import sys
 sys.path.insert(0, sys.argv[1])
@@ -431,16 +442,16 @@ def python(script, given=''):
 
 def steps():
     """The table of steps is that of docs/BEHAVIOUR.md, and the powers are what it says."""
-    wanted = [(power, verbs.split(), types.split(), in_cluster, named) for power, verbs, types, in_cluster, named in POWERS]
-    said = steps_of_behaviour()
-    checked('docs/BEHAVIOUR.md: the powers', said == wanted, repr(said))
-    table = [(power, verbs.split(), types.split(), 'cluster' in where, 'named' in where) for power, verbs, types, where in json.loads(python(TABLE))]
-    checked('fields.py: the powers', table == wanted, repr(table))
+    wanted = [(power, verb, type_, place, has_name(verb, type_)) for power, verbs, types, place in POWERS for type_ in types.split() for verb in verbs.split()]
+    of_place = {True: 'cluster', False: ''}
+    said = [(power, verb, type_, of_place.get(place, place), named) for power, verbs, types, place, named in steps_of_behaviour() for type_ in types for verb in verbs]
+    for name, table in (('docs/BEHAVIOUR.md', said), ('fields.py', [*map(tuple, json.loads(python(TABLE)))])):
+        checked('%s: the powers' % name, sorted(table) == sorted(wanted) and [*dict.fromkeys(power for power, *_ in table)] == ORDER, repr(table))
     chosen = random.Random(3)
     words = [sorted({word for change in POWERS for word in of(change)} | {'*', 'x'}) for of in (
         lambda it: it[1].split(), lambda it: [type_.partition('.')[2] or '-' for type_ in it[2].split()], lambda it: [type_.partition('.')[0] for type_ in it[2].split()])]
-    words[2] += ['*/exec', '*/token', '*/approval', '*/proxy', '*/', 'pods/*', 'secrets,x']
-    changes = [['+', 'u:a', chosen.choice(['*', 'dev', '-', '\\x2a']), *(chosen.choice(it) for it in words), chosen.choice(['*', '-', 'x', '\\x2a']), 'RoleBinding/dev/%d' % (at % 7)]
+    words[2] += ['*/exec', '*/token', '*/approval', '*/nodeclient', '*/proxy', '*/', 'pods/*', 'secrets,x']
+    changes = [['+', 'u:a', chosen.choice(['*', 'dev', '-', '\\x2a', 'kube-system']), *(chosen.choice(it) for it in words), chosen.choice(['*', '-', 'x', '\\x2a']), 'RoleBinding/dev/%d' % (at % 7)]
                for at in range(20000)]
     changes.sort(key=lambda it: '\t'.join(it[1:]).encode())
     lines = ''.join('\t'.join(change) + '\n' for change in changes)

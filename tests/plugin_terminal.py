@@ -47,7 +47,7 @@ def hostile():
     """A user of an odd name who may delete an odd type, by a binding of an odd name."""
     return of_kinds([
         {'apiVersion': V1, 'kind': 'ClusterRole', 'metadata': {'name': ROLE}, 'rules': [
-            {'verbs': ['delete'], 'apiGroups': [''], 'resources': [TYPE]}, {'verbs': ['bind'], 'apiGroups': ['*'], 'resources': ['roles']}]},
+            {'verbs': ['delete'], 'apiGroups': [''], 'resources': [TYPE]}, {'verbs': ['bind'], 'apiGroups': ['*'], 'resources': ['clusterroles']}]},
         {'apiVersion': V1, 'kind': 'ClusterRoleBinding', 'metadata': {'name': BINDING},
          'roleRef': {'kind': 'ClusterRole', 'name': ROLE}, 'subjects': [{'kind': 'User', 'name': USER}]}],
         'ClusterRole', 'ClusterRoleBinding')
@@ -55,8 +55,8 @@ def hostile():
 
 WHY = '\tClusterRoleBinding/{0}\tClusterRole/{1}\tClusterRole/{1}\t1\t1\n'
 RULES = ('ClusterRoleBinding/{0}\tClusterRole/{1}\tClusterRole/{1}\t1\t1\t[delete]\t[-]\t[{2}]\t[]\t[]\n'
-         'ClusterRoleBinding/{0}\tClusterRole/{1}\tClusterRole/{1}\t2\t1\t[bind]\t[*]\t[roles]\t[]\t[]\n')
-GAINED = ('+\tu:{3}\t*\tdelete\t-\t{2}\t*\tClusterRoleBinding/{0}\n+\tu:{3}\t*\tbind\t*\troles\t*\tClusterRoleBinding/{0}\n')
+         'ClusterRoleBinding/{0}\tClusterRole/{1}\tClusterRole/{1}\t2\t1\t[bind]\t[*]\t[clusterroles]\t[]\t[]\n')
+GAINED = ('+\tu:{3}\t*\tdelete\t-\t{2}\t*\tClusterRoleBinding/{0}\n+\tu:{3}\t*\tbind\t*\tclusterroles\t*\tClusterRoleBinding/{0}\n')
 ANSWERS = [
     (['can-i', '--as', USER, '-A', '--why', 'delete', TYPE], 0, 'yes\n' + WHY[1:]),
     (['can-i', '--as', USER, '-A', 'get', TYPE], 1, 'no\n'), (['can-i', '-q', '--as', USER, '-A', 'delete', TYPE], 0, ''),

@@ -112,7 +112,7 @@ def commands(it):
 
 # Commands whose rows have colors: the codes of each row.
 COLORS = {'can-i --why': ['', ''], 'who-can': ['', ''], 'rules': ['', ''], 'lint': [''] * 5, 'powers': [''] * 3, 'paths': [''] * 5, 'who-can --indirect': [''] * 7,
-          'diff': ['1;32', '31', '31'], 'matrix': ['', '', '1', ''], 'diff --summary': ['1;32', '31', '1', '1']}
+          'diff': ['1;32', '1;31', '31'], 'matrix': ['', '', '1', ''], 'diff --summary': ['1;32', '31', '1', '1']}
 
 
 def colored(table, codes):
@@ -137,7 +137,10 @@ def colors(it):
     powers = [('- create - pods -', '1'), ('dev create - pods -', '1'), ('dev create - pods p', ''), ('dev create apps pods -', ''),
               ('dev create - serviceaccounts/token x', '1'), ('- impersonate - users kim', '1'), ('dev impersonate - users -', ''),
               ('dev escalate rbac.authorization.k8s.io clusterroles -', ''), ('- escalate rbac.authorization.k8s.io clusterroles x', '1'),
-              ('dev get - nodes/proxy -', ''), ('- get - nodes/proxy -', '1'), ('- get - /pods/exec -', ''), ('dev get - pods/exec -', '1')]
+              ('dev get - nodes/proxy -', ''), ('- get - nodes/proxy -', '1'), ('- get - /pods/exec -', ''), ('dev get - pods/exec -', '1'),
+              ('dev get - secrets x', '1'), ('dev patch apps deployments web', '1'), ('dev delete - secrets -', '1'), ('dev create - secrets -', ''),
+              ('kube-system create - secrets -', '1'), ('kube-system create - secrets x', ''), ('- create - secrets -', '1'), ('- create - persistentvolumes -', '1'),
+              ('dev create - persistentvolumes -', ''), ('dev update - namespaces dev', '1'), ('dev create - namespaces -', ''), ('dev deletecollection - secrets x', '')]
     for row, code in powers:
         line = tabs('u:a %s RoleBinding/b/c' % row)
         it.same('a power in a matrix: %s' % row, it.run(line, '--color=always')[1].count(b'\x1b[1m'), len(code))
@@ -145,7 +148,10 @@ def colors(it):
     for binding, *words, code in (
             ('RoleBinding/a/b', 'get,create', '-', 'pods,services', '', 1), ('RoleBinding/a/b', 'create', 'apps,batch', 'jobs', '', 1),
             ('RoleBinding/a/b', 'create', 'apps', 'jobs', '', 0), ('RoleBinding/a/b', '*', '*', '*', '', 1), ('RoleBinding/a/b', '*', '*', '*', 'x', 1),
-            ('RoleBinding/a/b', 'get', '-', 'secrets', 'x', 0), ('RoleBinding/a/b', 'get', '-', 'secrets', 'x,-', 1), ('RoleBinding/a/b', 'get', '-', 'secrets', '*', 0),
+            ('RoleBinding/a/b', 'get', '-', 'secrets', 'x', 1), ('RoleBinding/a/b', 'create', '-', 'pods', 'x,-', 1), ('RoleBinding/a/b', 'create', '-', 'pods', 'x', 0),
+            ('RoleBinding/a/b', 'get', '-', 'secrets', '*', 1), ('RoleBinding/a/b', 'create', '-', 'secrets', '', 0), ('RoleBinding/kube-system/b', 'create', '-', 'secrets', '', 1),
+            ('RoleBinding/a/b', 'deletecollection', '-', 'secrets', 'x', 0), ('ClusterRoleBinding/b', 'create', 'certificates.k8s.io', '*/nodeclient', '', 1),
+            ('ClusterRoleBinding/b', 'create', 'certificates.k8s.io', '*/nodeclient', 'x', 0), ('ClusterRoleBinding/b', 'patch', 'apiregistration.k8s.io', 'apiservices', 'x', 1),
             ('RoleBinding/a/b', 'get', '-', '*/exec', '', 1), ('RoleBinding/a/b', 'get', '-', '*/proxy', '', 0), ('ClusterRoleBinding/b', 'get', '-', '*/proxy', '', 1),
             ('ClusterRoleBinding/b', 'get', '-', 'pods/*', '', 0), ('RoleBinding/a/b', 'get', '-', 'a\\x2csecrets', '', 0)):
         it.same('a power in rules: %s %s' % (binding, words), it.run(rule % (binding, *words), '--color=always')[1].count(b'\x1b[1m'), code)
@@ -374,9 +380,11 @@ OF_PATHS = ['1 %s - u:kim - run %s' % (CI, GRANT), '1 %s - ClusterRole/r * token
 OF_WAYS = ['1 u:kim - %s - run %s' % (CI, GRANT), '1 ClusterRole/r * %s - token - ClusterRole/r ClusterRole/r 1 -' % CI, '2 * dev %s - exec - - - - -' % CI,
            '1 ClusterRole/r dev ClusterRole/s dev bind - ClusterRole/r ClusterRole/r 1 -', '1 u:kim - * dev escalate ' + GRANT, '3 u:kim - * * webhooks ' + GRANT,
            '0 u:kim - - - - ' + GRANT, '0 * * - - - - - - - -']
-# What each step takes over, and where.
-OVER = {**dict.fromkeys(('token', 'run', 'exec', 'secrets', 'nodes'), CI + ' -'), **dict.fromkeys(('escalate', 'certificates', 'webhooks'), '* *'),
-        'impersonate': 'g:ops -', 'bind': 'ClusterRole/s dev'}
+# What each step takes over, and where; these take over nobody.
+OVER = {**dict.fromkeys(('token', 'run', 'exec', 'secrets', 'nodes'), [CI + ' -']), **dict.fromkeys(('webhooks', 'apiservices'), ['* *']), 'escalate': ['* *', '* dev'],
+        'certificates': ['* *', CI + ' -'], 'impersonate': ['g:ops -'], 'bind': ['ClusterRole/s dev', 'Role/dev/s dev', '* dev'],
+        'bootstrap': ['g:system:bootstrappers -', 'g:system:bootstrappers:kubeadm:default-node-token -']}
+POWERS_ALONE = ('volumes', 'namespaces')
 # Lines that both can.
 OF_BOTH = ['1 u:kim - g:ops - impersonate ' + GRANT, '1 %s - %s - secrets %s' % (CI, BOT, GRANT)]
 
@@ -392,16 +400,19 @@ def no_ways():
             ('a token of everything', taker, 'bind', 'token'), ('a role that is escalated', taker, '* dev bind', 'ClusterRole/r dev escalate'),
             ('a role by a binding', taker, 'u:kim -', 'ClusterRole/r dev'), ('everything by a role', '0 * dev - - - - - - - -', '- - - - -', '- - - - ClusterRole/r'),
             ('a role by another', '0 ClusterRole/r * - - - - ClusterRole/r ClusterRole/r 1 -', 'ClusterRole/r ClusterRole/r', 'ClusterRole/s ClusterRole/r'),
-            ('a token of a user', '1 u:kim - %s - token %s' % (CI, GRANT), CI, 'u:ci')):
+            ('a token of a user', '1 u:kim - %s - token %s' % (CI, GRANT), CI, 'u:ci'), ('a webhook of a namespace', taker, 'bind', 'webhooks'),
+            ('a certificate of a namespace', taker, 'bind', 'certificates'), ('a bootstrap token of everything', taker, 'bind', 'bootstrap'),
+            ('a bootstrap token of another group', '1 u:kim - g:system:bootstrapper - bootstrap ' + GRANT, 'bootstrapper ', 'bootstrappersx '),
+            *(('a power alone, %s of %s' % (step, over), taker, '* dev bind', '%s %s' % (over, step)) for step in POWERS_ALONE for of in OVER.values() for over in of)):
         yield 'a way: ' + name, line.replace(old, new, 1).replace(' ', '\t')
 
 
 def told_apart(it):
     """Lines of paths and of who-can --indirect have as many fields: who takes over whom tells them apart, and where both fit an option does."""
     heads = {'paths': 'STEPS TO WHERE FROM WHERE STEP', 'who-can --indirect': 'STEPS WHO WHERE TO WHERE STEP'}
-    it.same('what each step takes over', {*OVER}, {line[0] for line in steps_of_behaviour()})
-    for lines, command, words in ((['1 %s u:kim - %s %s' % (over, step, GRANT) for step, over in OVER.items()], 'paths', []),
-                                  (['1 u:kim - %s %s %s' % (over, step, GRANT) for step, over in OVER.items()], 'who-can --indirect', ['--indirect']),
+    it.same('what each step takes over', {*OVER, *POWERS_ALONE}, {line[0] for line in steps_of_behaviour()})
+    for lines, command, words in ((['1 %s u:kim - %s %s' % (over, step, GRANT) for step, of in OVER.items() for over in of], 'paths', []),
+                                  (['1 u:kim - %s %s %s' % (over, step, GRANT) for step, of in OVER.items() for over in of], 'who-can --indirect', ['--indirect']),
                                   (OF_PATHS, 'paths', []), (OF_WAYS, 'who-can --indirect', []), (OF_WAYS, 'who-can --indirect', ['--indirect']),
                                   (OF_BOTH, 'paths', []), (OF_BOTH, 'who-can --indirect', ['--indirect'])):
         for line in lines:

@@ -111,7 +111,9 @@ def seen_watch(page):
         ['2', 'Reads secrets', '1 in the whole cluster'],
         ['0', 'Sends requests to kubelets', 'nobody'], ['0', 'Binds roles', 'nobody'],
         ['0', 'Escalates roles', 'nobody'], ['0', 'Approves certificates', 'nobody'],
-        ['0', 'Changes webhooks', 'nobody'], ['0', 'Has everything (*)', 'nobody']])
+        ['0', 'Changes webhooks', 'nobody'], ['0', 'Changes API services', 'nobody'],
+        ['0', 'Writes bootstrap tokens', 'nobody'], ['0', 'Creates volumes', 'nobody'],
+        ['0', 'Changes namespaces', 'nobody'], ['0', 'Has everything (*)', 'nobody']])
     same('watch: who reads secrets', page.cells('#watch-secrets'),
          [['user ann', 'whole cluster', 'get secrets', 'ClusterRoleBinding/ops '],
                                                                     ['group devs', 'dev ',
@@ -205,7 +207,9 @@ def watched(it, room):
     page = Shown(it, room, 'places', made(rows)[1])
     page.go('#watch')
     for step in dict.fromkeys(step for step, *_ in requests):
-        places = [(at, request[-1]) for at, request in enumerate(requests) if request[0] == step]
+        # (some requests are of two steps)
+        given = {request[1:4]: request[-1] for request in requests if request[0] == step}
+        places = [(at, given[request[1:4]]) for at, request in enumerate(requests) if request[1:4] in given]
         same('watched: who has the step %s' % step,
              [row[0] for row in page.cells('#watch-' + step)],
              ['user all-%d' % at for at, _ in places]
@@ -240,7 +244,9 @@ def by_name(it, room):
         ['2 · 2 by name', 'Reads secrets', '1 in the whole cluster'],
         ['0', 'Sends requests to kubelets', 'nobody'], ['0', 'Binds roles', 'nobody'],
         ['0', 'Escalates roles', 'nobody'], ['0', 'Approves certificates', 'nobody'],
-        ['0', 'Changes webhooks', 'nobody'], ['0', 'Has everything (*)', 'nobody']])
+        ['0', 'Changes webhooks', 'nobody'], ['0', 'Changes API services', 'nobody'],
+        ['0', 'Writes bootstrap tokens', 'nobody'], ['0', 'Creates volumes', 'nobody'],
+        ['0', 'Changes namespaces', 'nobody'], ['0', 'Has everything (*)', 'nobody']])
     ann, devs = page.cells('#watch-secrets')[:2]
     same('by name: whoever reads all secrets comes first', (ann[0], devs[:2]),
          ('user ann', ['group devs', 'dev ']))

@@ -16,7 +16,7 @@ ALL = 'everything in the whole cluster'
 # Who can take over everything in the whole cluster of examples/cluster, and in how many steps, as
 # docs/RECIPES.md has them.
 RICH = {'g:platform': 1, 'g:system:masters': 1, 'u:dana@example.com': 1,
-        'u:system:serviceaccount:ci:onboarding': 1,
+        'u:system:serviceaccount:ci:onboarding': 4,
         'u:system:serviceaccount:flux-system:helm-controller': 1,
         'u:system:serviceaccount:flux-system:kustomize-controller': 1, 'g:oncall': 2, 'g:support': 2,
         'u:system:serviceaccount:cert-manager:cert-manager': 2,
@@ -116,7 +116,7 @@ def seen_watch(page):
     """The watch list counts who can take over everything in the whole cluster, in a namespace too."""
     for place in ('', '?ns=dev'):
         page.go('#watch' + place)
-        same('watch%s: who can take over everything' % place, page.it.do(COUNTS)[11:],
+        same('watch%s: who can take over everything' % place, page.it.do(COUNTS)[15:],
              [['1', 'Can take over everything (*)', 'of 3 principals with paths']])
         same('watch%s: how' % place, page.cells('#watch-comes'), [
             ['user kim', '2', 'exec → account dev:ci, bind → everything in the whole cluster; why',
@@ -216,7 +216,7 @@ def shown_requests(it, room):
     same('requests: no such file', page.texts('main h2, main h2 + p'),
          ['no such file', 'This page has no such file.'])
     page.go('#watch')
-    same('requests: nobody was asked who can take over everything', len(page.it.do(COUNTS)), 11)
+    same('requests: nobody was asked who can take over everything', len(page.it.do(COUNTS)), 15)
     headed(page, 'requests', 'requests?node=u:kim%09-')
     page.is_quiet()
 
@@ -239,14 +239,14 @@ def empty_paths(it, room):
     page.go('#paths')
     same('no lines at all: nobody is listed', page.cells(), [])
     page.go('#watch')
-    same('no lines at all: nobody can take over everything', (page.it.do(COUNTS)[11:], page.texts(
+    same('no lines at all: nobody can take over everything', (page.it.do(COUNTS)[15:], page.texts(
         '#watch-comes p')[1:]), ([['0', 'Can take over everything (*)', 'of 0 principals with paths']],
                                  ['Nobody, by the paths of this page.']))
     page.is_quiet()
     page = Shown(it, room, 'without', made(SMALL)[1])
     page.go('#watch')
     same('without --paths', (page.texts('nav a'), len(page.it.do(COUNTS))),
-         (['Who 3', 'What', 'Watch list', 'Rows 12'], 11))
+         (['Who 3', 'What', 'Watch list', 'Rows 12'], 15))
 
 
 def hostile_paths(it, room):
@@ -304,7 +304,7 @@ def example_paths(it, room):
     page = with_paths(it, room, 'example', ('all', [line for lines in answers.values() for line in lines]),
                       ('secrets', secrets))
     page.go('#watch')
-    same('example: who can take over everything', page.it.do(COUNTS)[11],
+    same('example: who can take over everything', page.it.do(COUNTS)[15],
          ['13', 'Can take over everything (*)', 'of 22 principals with paths'])
     same('example: and in how many steps', page.it.do(
         'Object.fromEntries(PATHS.filter(it => it.reach.everything !== undefined).map(it => '
@@ -388,7 +388,7 @@ def many_paths(it, room):
             checked('%s: %s in time' % (name, view), seconds <= 3, str(seconds))
             checked('%s: %s has few elements' % (name, view),
                     it.do('document.querySelectorAll("*").length') < 3000)
-        same('%s: two steps lead to everything' % name, page.it.do(COUNTS)[11][0], '1')
+        same('%s: two steps lead to everything' % name, page.it.do(COUNTS)[15][0], '1')
         page.go('#paths?who=%s&node=*%%09*' % who)
         same('%s: and are shown' % name, len(page.cells('.steps')), 2)
         page.is_quiet()

@@ -40,30 +40,44 @@ def words_of(field: str) -> list[str]:
 
 # ---- the powers: the steps by which somebody takes over somebody else
 
-# (the step; its verbs; its types, each with its group after the first dot; `cluster` where only a ClusterRoleBinding gives it, `named` where a rule
-# that is limited to object names gives it too. docs/BEHAVIOUR.md shows this table.)
+# (the step; its verbs; its types, each with its group after the first dot; `cluster` where only a ClusterRoleBinding gives it, or the namespace whose
+# RoleBindings give it too. docs/BEHAVIOUR.md shows this table.)
+CLUSTER, KUBE_SYSTEM = 'cluster', 'kube-system'
+OF_NODES = ('certificatesigningrequests/nodeclient.certificates.k8s.io', 'certificatesigningrequests/selfnodeclient.certificates.k8s.io')
 STEPS = (
-    ('impersonate', 'impersonate', 'users groups', 'cluster named'),
-    ('impersonate', 'impersonate', 'serviceaccounts', 'named'),
-    ('token', 'create', 'serviceaccounts/token', 'named'),
+    ('impersonate', 'impersonate', 'users groups', CLUSTER),
+    ('impersonate', 'impersonate', 'serviceaccounts', ''),
+    ('token', 'create', 'serviceaccounts/token', ''),
     ('run', 'create', 'pods jobs.batch', ''),
-    ('run', 'create update patch', 'replicationcontrollers daemonsets.apps deployments.apps replicasets.apps statefulsets.apps cronjobs.batch', ''),
+    ('run', 'create update patch', 'replicationcontrollers daemonsets.apps deployments.apps replicasets.apps statefulsets.apps cronjobs.batch '
+     'controllerrevisions.apps', ''),
     ('exec', 'create get', 'pods/attach pods/exec', ''),
     ('exec', 'update patch', 'pods pods/ephemeralcontainers', ''),
-    ('secrets', 'get list watch', 'secrets', ''),
-    ('nodes', 'create get', 'nodes/proxy', 'cluster'),
-    ('bind', 'bind', 'clusterroles.rbac.authorization.k8s.io roles.rbac.authorization.k8s.io', 'named'),
-    ('escalate', 'escalate', 'clusterroles.rbac.authorization.k8s.io', 'cluster named'),
-    ('escalate', 'escalate', 'roles.rbac.authorization.k8s.io', 'named'),
-    ('certificates', 'update patch', 'certificatesigningrequests/approval.certificates.k8s.io', 'cluster'),
+    ('secrets', 'get list watch update patch delete deletecollection', 'secrets', ''),
+    ('nodes', 'create get', 'nodes/proxy', CLUSTER),
+    ('bind', 'bind', 'clusterroles.rbac.authorization.k8s.io roles.rbac.authorization.k8s.io', ''),
+    ('escalate', 'escalate', 'clusterroles.rbac.authorization.k8s.io', CLUSTER),
+    ('escalate', 'escalate', 'roles.rbac.authorization.k8s.io', ''),
+    ('certificates', 'update patch', 'certificatesigningrequests/approval.certificates.k8s.io', CLUSTER),
+    ('certificates', 'create', ' '.join(OF_NODES), CLUSTER),
     ('webhooks', 'create update patch', 'mutatingwebhookconfigurations.admissionregistration.k8s.io '
-     'validatingwebhookconfigurations.admissionregistration.k8s.io', 'cluster'))
+     'validatingwebhookconfigurations.admissionregistration.k8s.io mutatingadmissionpolicies.admissionregistration.k8s.io '
+     'mutatingadmissionpolicybindings.admissionregistration.k8s.io', CLUSTER),
+    ('apiservices', 'create update patch', 'apiservices.apiregistration.k8s.io', CLUSTER),
+    ('bootstrap', 'create update patch', 'secrets', KUBE_SYSTEM),
+    ('volumes', 'create', 'persistentvolumes', CLUSTER),
+    ('namespaces', 'update patch', 'namespaces', ''))
 STEP_NAMES = tuple(dict.fromkeys(name for name, *_ in STEPS))
 
 
+def has_name(verb: str, type_: str) -> bool:
+    """Whether such a request has an object's name, so that a rule which is limited to names may allow it."""
+    return verb != 'deletecollection' and (verb != 'create' or '/' in type_ and type_ not in OF_NODES)
+
+
 @functools.lru_cache(maxsize=4096)
-def steps_of(verbs: tuple[str, ...], groups: tuple[str, ...], resources: tuple[str, ...], is_named: bool, is_in_cluster: bool) -> tuple[str, ...]:
-    """The steps that a rule gives, in the order of the table. Words are fields."""
+def steps_of(verbs: tuple[str, ...], groups: tuple[str, ...], resources: tuple[str, ...], is_named: bool, place: str) -> tuple[str, ...]:
+    """The steps that a rule gives in a place, in the order of the table. Words are fields."""
     def has(words: tuple[str, ...], *wanted: str) -> bool:
         return '*' in words or any(word in words for word in wanted)
 
@@ -73,21 +87,28 @@ def steps_of(verbs: tuple[str, ...], groups: tuple[str, ...], resources: tuple[s
         return has(groups, group or '-') and has(resources, resource, *(['*/' + below] if slash else []))
 
     return tuple(dict.fromkeys(
-        name for name, of_verbs, types, where in STEPS if (is_in_cluster or 'cluster' not in where) and (not is_named or 'named' in where)
-        and has(verbs, *of_verbs.split()) and any(map(has_type, types.split()))))
+        name for name, of_verbs, types, where in STEPS if place == CLUSTER or where in ('', place)
+        for type_ in types.split() if has_type(type_)
+        for verb in of_verbs.split() if has(verbs, verb) and (not is_named or has_name(verb, type_))))
+
+
+def _place(namespace: str, of_cluster: str) -> str:
+    """The place of a namespace, as far as the table tells places apart; the whole cluster is written in this way."""
+    return CLUSTER if namespace == of_cluster else namespace if namespace == KUBE_SYSTEM else ''
 
 
 def powers_of(command: str, cells: Sequence[str]) -> tuple[str, ...]:
     """The powers of a line of diff, of its summary, of matrix or of rules; lines of other commands tell none."""
     if command == 'diff' and cells[2] != '-':  # (a URL has no namespace)
-        return steps_of((cells[3],), (cells[4],), (cells[5],), cells[6] not in ('*', '-'), cells[2] == '*')
+        return steps_of((cells[3],), (cells[4],), (cells[5],), cells[6] not in ('*', '-'), _place(cells[2], '*'))
     if command == 'diff --summary':
         return tuple(words_of(cells[5]) + words_of(cells[6]))
     if command == 'matrix' and not cells[4].startswith('/'):
-        return steps_of((cells[2],), (cells[3],), (cells[4],), cells[5] != '-', cells[1] == '-')
+        return steps_of((cells[2],), (cells[3],), (cells[4],), cells[5] != '-', _place(cells[1], '-'))
     if command == 'rules':
         verbs, groups, resources, names = (tuple(words_of(cell)) for cell in cells[5:9])
-        return steps_of(verbs, groups, resources, bool(names) and '-' not in names, cells[0].startswith('C'))
+        kind, _, key = cells[0].partition('/')
+        return steps_of(verbs, groups, resources, bool(names) and '-' not in names, _place(key.partition('/')[0] if kind[0] == 'R' else '*', '*'))
     return ()
 
 
@@ -158,6 +179,12 @@ REMARK = Shape('', 0, ())
 
 # ---- which of two commands
 
+ACCOUNT, ALL = 'u:system:serviceaccount:[^:]+:[^:]+\t-', r'\*\t\*'
+# Which nodes a step takes over, and where, if not the service accounts. Some steps are powers alone, and take over nobody.
+OVER = {'impersonate': '[ug]:.+', 'bind': '(?![ug]:).+', 'escalate': r'\*\t.+', 'certificates': '%s|%s' % (ALL, ACCOUNT), 'webhooks': ALL, 'apiservices': ALL,
+        'bootstrap': 'g:system:bootstrappers(?::.*)?\t-', **dict.fromkeys(('volumes', 'namespaces'), '(?!)')}
+
+
 def _is_node(node: str, where: str) -> bool:
     return node != '-' and node.startswith(('u:', 'g:')) == (where == '-')
 
@@ -168,11 +195,9 @@ def _has(node: str, grant: Sequence[str]) -> bool:
     return lacks == ('00000' if node.startswith(('u:', 'g:')) else '11111' if node == '*' else '10001') and (lacks != '10001' or grant[1] == node)
 
 
-def _is_over(step: str, node: str) -> bool:
+def _is_over(step: str, node: str, where: str) -> bool:
     """Whether a step takes over such a node."""
-    if step in ('impersonate', 'bind'):
-        return node.startswith(('u:', 'g:')) == (step == 'impersonate')
-    return node == '*' if step in ('escalate', 'certificates', 'webhooks') else bool(re.fullmatch('u:system:serviceaccount:[^:]+:[^:]+', node))
+    return bool(re.fullmatch(OVER.get(step, ACCOUNT), node + '\t' + where))
 
 
 def tells_step(cells: Sequence[str], is_of_paths: bool) -> bool:
@@ -183,4 +208,4 @@ def tells_step(cells: Sequence[str], is_of_paths: bool) -> bool:
         return False
     if cells[0] == '0':
         return [*taken, cells[5]] == ['-', '-', '-']
-    return cells[5] != '-' and _is_node(*taken) and _is_over(cells[5], taken[0])
+    return cells[5] != '-' and _is_node(*taken) and _is_over(cells[5], *taken)

@@ -12,7 +12,7 @@ from .answer import Asking, ask_well, lines_of, report_fault
 from .errors import Refused
 from .escapes import printable, text_of
 from .export import open_export, write_about
-from .fields import in_field
+from .fields import has_name, in_field
 from .listed import Type, list_types, make_universe
 from .options import read_options
 from .processes import PIPE, Session
@@ -98,18 +98,21 @@ def named_holders(asking: Asking, types: list[Type]) -> list[str]:
     if not any(has_names(path) for path in [*asking.question.files, *asking.files('cluster.json', 'namespaced.json')]):
         return []
     known = {(it.group, it.name) for it in types}
-    # (a server asks without a name whether somebody may create a new object, so a rule with names never lets them)
-    pairs = [(step, (verb, group, resource)) for step, verb, group, resource in page.watched()
-             if ('' if group == '-' else group, resource) in known and (verb != 'create' or '/' in resource)]
-    by_name, outright = list[tuple[str, str, str, str]](), set[tuple[str, str, str]]()
-    for number, (step, pair) in enumerate(pairs, 1):
-        asking.session.progress.draw('asking about object names, %d of %d' % (number, len(pairs)))
+    steps: dict[tuple[str, str, str], set[str]] = {}
+    for step, verb, group, resource in page.watched():
+        of_core = group == '-'
+        # (a server asks about some requests without a name, so a rule with names never allows them)
+        if ('' if of_core else group, resource) in known and has_name(verb, resource if of_core else resource + '.' + group):
+            steps.setdefault((verb, group, resource), set()).add(step)
+    by_name, outright = list[tuple[set[str], str, str, str]](), set[tuple[str, str, str]]()
+    for number, pair in enumerate(steps, 1):
+        asking.session.progress.draw('asking about object names, %d of %d' % (number, len(steps)))
         found = holders(asking, *pair, '--any-name')
-        by_name += ((step, '\t'.join(pair), *holder) for holder in found)
-        outright |= {(step, who, place_of(binding)) for who, binding in (holders(asking, *pair) if found else ())}
+        by_name += ((steps[pair], '\t'.join(pair), *holder) for holder in found)
+        outright |= {(step, who, place_of(binding)) for who, binding in (holders(asking, *pair) if found else ()) for step in steps[pair]}
     asking.session.progress.erase()
-    return ['%s\t%s\t%s\n' % (pair, who, binding) for step, pair, who, binding in by_name
-            if not {(step, who, ''), (step, who, place_of(binding))} & outright]
+    return ['%s\t%s\t%s\n' % (pair, who, binding) for of_pair, pair, who, binding in by_name
+            if any(not {(step, who, ''), (step, who, place_of(binding))} & outright for step in of_pair)]
 
 
 def has_names(path: str) -> bool:

@@ -21,6 +21,7 @@ ELSEWHERE = '-n NS asks about another, and -A about the whole cluster'
 URL_VERBS = ('get', 'put', 'post', 'head', 'options', 'delete', 'patch')
 # Verbs that no API resource list has.
 SPECIAL = ('*', 'bind', 'escalate', 'use', 'approve', 'sign', 'attest')
+READING, MOUNTED = ('get', 'list', 'watch'), ('secrets', 'configmaps')
 # What a server asks about in the whole cluster, though no list has the type.
 SIGNERS = ('signers.certificates.k8s.io',)
 UNLISTED = {'impersonate': ('users', 'users.', 'groups', 'groups.', 'uids.authentication.k8s.io'), 'impersonate/x': ('userextras.authentication.k8s.io',),
@@ -52,6 +53,7 @@ def on_type(asking: Asking) -> Iterator[str]:
         return
     if not files:
         yield 'the export has no API resource lists, so the type %s is taken as written' % question.type
+        yield from on_mounts(asking, as_written(question.type))
         return
     lists = Lists(asking, files)
     meant = lists.find(question.type)
@@ -68,6 +70,22 @@ def on_type(asking: Asking) -> Iterator[str]:
     else:
         unknown = 'subresource %s/%s' % (question.type, question.subresource) if meant else 'type ' + question.type
         yield "the API resource lists of the export don't have the %s%s" % (unknown, SPELLING)
+    yield from on_mounts(asking, meant or as_written(question.type))
+
+
+def as_written(word: str) -> Type:
+    """The type that a word means where no list has it."""
+    name, _, group = word.partition('.')
+    return Type(group, name)
+
+
+def on_mounts(asking: Asking, meant: Type) -> Iterator[str]:
+    """Who can read secrets and config maps lacks whoever may create pods, which mount them: another question has these."""
+    question = asking.question
+    if question.command == 'who-can' and question.verb in READING and not question.subresource and not meant.group and meant.name in MOUNTED:
+        where = '-A ' if question.everywhere else '--anywhere ' if question.anywhere else '-n %s ' % question.asked_in if question.has_namespace else ''
+        yield 'whoever may create pods in a namespace can read its %s too, by mounting them: kubectl rbacaudit who-can %s%screate pods lists them' % (
+            meant.name, '--indirect ' * question.indirect, where)
 
 
 def on_scope(asking: Asking, meant: Type) -> Iterator[str]:

@@ -38,6 +38,14 @@ class Lines(unittest.TestCase):
                      GRANT + '\t[,]\t[]\t[]\t[]\t[]', '01\t*\t*\tu:a\t-\tbind\t' + GRANT, '1\t*\t*\tu:a\t-\tsecrets\t' + GRANT):
             self.assertEqual(self.commands_of(line), [])
 
+    def test_whom_a_step_takes_over(self):
+        account, all_, group = 'u:system:serviceaccount:dev:ci\t-', '*\t*', 'g:system:bootstrappers\t-'
+        for step, nodes in (('certificates', (all_, account)), ('apiservices', (all_,)), ('escalate', (all_, '*\tdev')), ('volumes', ()), ('namespaces', ()),
+                            ('bootstrap', (group, 'g:system:bootstrappers:kubeadm:default\t-')), ('bind', (all_, '*\tdev', 'Role/dev/r\tdev', 'ClusterRole/r\t*')), ('nodes', (account,))):
+            for node in (all_, '*\tdev', account, group, 'g:system:bootstrappers:kubeadm:default\t-', 'g:system:bootstrappersx\t-', 'u:system:bootstrappers\t-',
+                         'Role/dev/r\tdev', 'ClusterRole/r\t*', 'u:kim\t-'):
+                self.assertEqual(self.commands_of('1\t%s\tu:a\t-\t%s\t%s' % (node, step, GRANT)), ['paths'] if node in nodes else [], (step, node))
+
     def test_long_lines_are_read_once(self):
         began = time.process_time()
         for name in ('a/' * 200_000, '\\\\' * 200_000, '[,' * 200_000, '\\x0a' * 100_000):
@@ -49,8 +57,21 @@ class Lines(unittest.TestCase):
 class Powers(unittest.TestCase):
     def test_of_lines(self):
         for command, line, wanted in (
-                ('diff', '+ u:a * * * * * B', ('impersonate', 'token', 'run', 'exec', 'secrets', 'nodes', 'bind', 'escalate', 'certificates', 'webhooks')),
-                ('diff', '+ u:a dev get - secrets one B', ()), ('diff', '- u:a dev create - serviceaccounts/token one B', ('token',)), ('diff', '+ u:a - get - /x - B', ()),
+                ('diff', '+ u:a * * * * * B', ('impersonate', 'token', 'run', 'exec', 'secrets', 'nodes', 'bind', 'escalate', 'certificates', 'webhooks', 'apiservices',
+                                               'bootstrap', 'volumes', 'namespaces')),
+                ('diff', '+ u:a dev get - secrets one B', ('secrets',)), ('diff', '+ u:a dev create - pods one B', ()), ('diff', '+ u:a dev patch - pods one B', ('exec',)),
+                ('diff', '+ u:a dev * - pods one B', ('exec',)), ('diff', '+ u:a dev * apps deployments one B', ('run',)), ('diff', '+ u:a dev deletecollection - secrets one B', ()),
+                ('diff', '+ u:a dev deletecollection - secrets * B', ('secrets',)), ('diff', '+ u:a kube-system create - secrets * B', ('bootstrap',)),
+                ('diff', '+ u:a kube-system create - secrets one B', ()), ('diff', '+ u:a kube-system patch - secrets one B', ('secrets', 'bootstrap')),
+                ('diff', '+ u:a kube-systemx create - secrets * B', ()), ('diff', '+ u:a cluster create - secrets * B', ()), ('diff', '+ u:a * create - secrets * B', ('bootstrap',)),
+                ('diff', '+ u:a * create certificates.k8s.io certificatesigningrequests/nodeclient * B', ('certificates',)),
+                ('diff', '+ u:a * create certificates.k8s.io certificatesigningrequests/selfnodeclient one B', ()),
+                ('diff', '+ u:a * create - */nodeclient * B', ()), ('diff', '+ u:a * create * */nodeclient one B', ()),
+                ('matrix', 'u:a - create - persistentvolumes - B', ('volumes',)), ('matrix', 'u:a dev create - persistentvolumes - B', ()),
+                ('matrix', 'u:a dev patch - namespaces dev B', ('namespaces',)), ('matrix', 'u:a kube-system update - secrets x B', ('secrets', 'bootstrap')),
+                ('rules', 'RoleBinding/kube-system/b r r 1 1 [create] [-] [secrets] [] []', ('bootstrap',)),
+                ('rules', 'RoleBinding/dev/kube-system r r 1 1 [create] [-] [secrets] [] []', ()), ('rules', 'ClusterRoleBinding/b r r 1 1 [create] [-] [secrets] [a] []', ()),
+                ('diff', '- u:a dev create - serviceaccounts/token one B', ('token',)), ('diff', '+ u:a - get - /x - B', ()),
                 ('diff --summary', 'u:a dev B 1 0 [exec] []', ('exec',)), ('matrix', 'u:a dev get - nodes/proxy - B', ()), ('matrix', 'u:a - get - nodes/proxy - B', ('nodes',)),
                 ('rules', 'C r r 1 1 [get] [-] [*/exec] [] []', ('exec',)), ('rules', 'R r r 1 1 [get] [-] [pods/*] [] []', ()), ('lint', 'L4 escalation R 1 bind', ())):
             self.assertEqual(fields.powers_of(command, line.split(' ')), wanted, line)

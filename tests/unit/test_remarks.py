@@ -8,7 +8,7 @@ from rbacaudit_kubectl.listed import Type
 from rbacaudit_kubectl.options import Options
 from rbacaudit_kubectl.processes import Session
 from rbacaudit_kubectl.question import Question, read_question
-from rbacaudit_kubectl.remarks import first_three, on_implied, on_own_object, on_place, on_scope, on_url, universe_faults
+from rbacaudit_kubectl.remarks import as_written, first_three, on_implied, on_mounts, on_own_object, on_place, on_scope, on_url, universe_faults
 
 ROLES = Type('rbac.authorization.k8s.io', 'clusterroles', False)
 
@@ -59,6 +59,17 @@ class Scopes(unittest.TestCase):
     def test_url(self):
         self.assertEqual(len(self.said(on_url, asking('who-can', '-n', 'shop', 'list', '/metrics'))), 2)
         self.assertEqual(self.said(on_url, asking('who-can', '-A', 'get', '/metrics')), [])
+
+    def test_mounts(self):
+        said = 'whoever may create pods in a namespace can read its %s too, by mounting them: kubectl rbacaudit who-can %screate pods lists them'
+        for words, type_, where in ((['get', 'secrets'], 'secrets', ''), (['-n', 'shop', '--indirect', 'watch', 'configmaps.'], 'configmaps', '--indirect -n shop '),
+                                    (['-A', '--anywhere', '-n', 'shop', 'list', 'secrets/x'], 'secrets', '-A '), (['--anywhere', 'list', 'secrets'], 'secrets', '--anywhere ')):
+            it = asking('who-can', *words)
+            self.assertEqual(self.said(on_mounts, it, as_written(it.question.type)), [said % (type_, where)])
+        for words in (['create', 'secrets'], ['get', 'secrets.x'], ['get', 'pods'], ['--subresource', 'x', 'get', 'secrets'], ['*', 'secrets']):
+            it = asking('who-can', *words)
+            self.assertEqual(self.said(on_mounts, it, as_written(it.question.type)), [])
+        self.assertEqual(self.said(on_mounts, asking('can-i', '--as', 'kim', 'get', 'secrets'), as_written('secrets')), [])
 
     def test_implied(self):
         it = asking('who-can', 'get', 'pods')
