@@ -115,7 +115,8 @@ complete -c rbacaudit -n '__rbacaudit_lacks limit matrix' -l limit -x -d 'List a
 complete -c rbacaudit -n '__rbacaudit_lacks only lint' -l only -x -d 'List only findings of these codes (default: all)'
 complete -c rbacaudit -n '__rbacaudit_lacks skip-system lint' -l skip-system -d 'Leave out built-in objects'
 complete -c rbacaudit -n '__rbacaudit_lacks steps paths' -l steps -x -k \
-    -a 'impersonate token run exec secrets nodes bind escalate certificates webhooks apiservices bootstrap volumes namespaces' -d 'Only these steps count (default: all of powers)'
+    -a 'impersonate token run exec secrets nodes bind escalate certificates webhooks apiservices bootstrap volumes namespaces' \
+    -d 'Only these steps count (default: all of powers)'
 complete -c rbacaudit -n '__rbacaudit_lacks before diff' -l before -x -k -a '(__fish_complete_suffix .json)' \
     -d 'JSON of kubectl get -o json or --raw as it was before the change'
 complete -c rbacaudit -n '__rbacaudit_lacks after diff' -l after -x -k -a '(__fish_complete_suffix .json)' \
