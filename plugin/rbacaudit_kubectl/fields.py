@@ -140,13 +140,13 @@ ROLE, BINDING = (r'(?:Cluster{0}/(?=[^\t])|{0}/(?=[^\t]+/[^\t]))'.format(kind) +
 NUMBER = '[1-9][0-9]{0,17}'
 STEP = '(?:%s)' % '|'.join(STEP_NAMES)
 # What a near grant lacks, and whether it has a list of the rule in its place.
-WHAT = {'namespace': False, 'verb': True, 'group': True, 'subresource': True, 'name': True, 'member': False}
+LACKS = {'namespace': False, 'verb': True, 'group': True, 'subresource': True, 'name': True, 'member': False}
 # What a field of each kind looks like. Fields of `any` may be *, which is no name then.
 KINDS = {
     'text': FIELD, 'any': FIELD, 'detail': FIELD, 'who': PRINCIPAL, 'holder': '(?:%s|r:%s)' % (PRINCIPAL, ROLE), 'whose': '(?:%s|r:%s|total)' % (PRINCIPAL, ROLE), 'binding': BINDING, 'role': ROLE,
     'node': r'(?:%s|\*|%s)' % (PRINCIPAL, ROLE), 'next': r'(?:%s|[-*]|%s)' % (PRINCIPAL, ROLE), 'bound': '(?:-|%s)' % BINDING, 'held': '(?:-|%s)' % ROLE,
     'number': NUMBER, 'count': '(?:0|%s)' % NUMBER, 'place': '(?:-|%s)' % NUMBER, 'list': r'\[(?:%s(?:,%s)*)?\]' % (_WORD, _WORD),
-    'code': 'L[1-9][0-9]*', 'sign': '[-+]', 'step': STEP, 'by': '(?:-|%s)' % STEP, 'what': '(?:%s)' % '|'.join(WHAT), 'has': FIELD}
+    'code': 'L[1-9][0-9]*', 'sign': '[-+]', 'step': STEP, 'by': '(?:-|%s)' % STEP, 'what': '(?:%s)' % '|'.join(LACKS), 'has': FIELD}
 
 
 @dataclass(frozen=True)

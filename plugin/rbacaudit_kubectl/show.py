@@ -15,7 +15,7 @@ from . import VERSION
 from .errors import Ended, Refused
 from .escapes import bytes_of, escaped
 from .escapes import text_of as text_of_bytes
-from .fields import NUMBER, REMARK, SHAPES, WHAT, Row, Shape, text_of, words_of
+from .fields import LACKS, NUMBER, REMARK, SHAPES, Row, Shape, text_of, words_of
 from .table import Table
 from .terminal import has_colors, is_terminal, print_text, report
 
@@ -178,7 +178,7 @@ def keys_of(shape: Shape, cells: Sequence[str]) -> Iterator[tuple[str, str]]:
     for _, kind, key in shape.fields:
         # (the detail of these findings is the place of a rule or of a document)
         is_place = kind == 'detail' and cells[0] in ('L3', 'L7') and re.fullmatch(NUMBER, cells[4])
-        is_list = kind == 'has' and WHAT[cells[0]]
+        is_list = kind == 'has' and LACKS[cells[0]]
         yield key, 'number' if is_place else 'list' if is_list else kind
 
 
