@@ -25,7 +25,7 @@ _rbacaudit() {
     case $command in
         can-i)
             options='--as=text --groups=text --group+=text -n,--namespace=text -A,--all-namespaces --in-namespace --subresource=text
-                -q,--quiet --why -h,--help'
+                -q,--quiet --why --why-not -h,--help'
             places=(verb text) rest=file
             ;;
         who-can)

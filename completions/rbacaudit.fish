@@ -6,7 +6,7 @@ function __rbacaudit_options
     switch "$argv[1]"
         case can-i
             echo '^(--(as|groups|group|namespace|subresource)|-[^-n]*[n])$'
-            string split ' ' 'as= groups= group= n/namespace= A/all-namespaces in-namespace subresource= q/quiet why h/help'
+            string split ' ' 'as= groups= group= n/namespace= A/all-namespaces in-namespace subresource= q/quiet why why-not h/help'
         case who-can
             echo '^(--(namespace|subresource|steps)|-[^-n]*[n])$'
             string split ' ' 'n/namespace= A/all-namespaces in-namespace subresource= anywhere any-name every why indirect steps= h/help'
@@ -97,6 +97,7 @@ complete -c rbacaudit -n '__rbacaudit_lacks in-namespace can-i who-can' -l in-na
 complete -c rbacaudit -n '__rbacaudit_lacks subresource can-i who-can' -l subresource -x -d 'Subresource to check (default: none)'
 complete -c rbacaudit -n '__rbacaudit_lacks quiet can-i' -s q -l quiet -d 'Print nothing'
 complete -c rbacaudit -n '__rbacaudit_lacks why can-i' -l why -d 'After yes, print why'
+complete -c rbacaudit -n '__rbacaudit_lacks why-not can-i' -l why-not -d 'After no'
 complete -c rbacaudit -n '__rbacaudit_lacks anywhere who-can' -l anywhere -d 'Count the RoleBindings of all namespaces'
 complete -c rbacaudit -n '__rbacaudit_lacks any-name who-can' -l any-name -d 'Count rules limited to object names too'
 complete -c rbacaudit -n '__rbacaudit_lacks every who-can' -l every -d 'List each holder with every binding that grants it'
