@@ -97,7 +97,7 @@ complete -c rbacaudit -n '__rbacaudit_lacks in-namespace can-i who-can' -l in-na
 complete -c rbacaudit -n '__rbacaudit_lacks subresource can-i who-can' -l subresource -x -d 'Subresource to check (default: none)'
 complete -c rbacaudit -n '__rbacaudit_lacks quiet can-i' -s q -l quiet -d 'Print nothing'
 complete -c rbacaudit -n '__rbacaudit_lacks why can-i' -l why -d 'After yes, print why'
-complete -c rbacaudit -n '__rbacaudit_lacks why-not can-i' -l why-not -d 'After no'
+complete -c rbacaudit -n '__rbacaudit_lacks why-not can-i' -l why-not -d 'After no, print why not'
 complete -c rbacaudit -n '__rbacaudit_lacks anywhere who-can' -l anywhere -d 'Count the RoleBindings of all namespaces'
 complete -c rbacaudit -n '__rbacaudit_lacks any-name who-can' -l any-name -d 'Count rules limited to object names too'
 complete -c rbacaudit -n '__rbacaudit_lacks every who-can' -l every -d 'List each holder with every binding that grants it'

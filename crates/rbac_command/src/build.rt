@@ -248,7 +248,8 @@ const NAMESPACE: &str = "Namespace to check (default: default)";
 
 const ALL: &str = "Check all namespaces at once: only ClusterRoleBindings grant this; overrides -n";
 
-const WHY_NOT: &str = "After no, print what each grant lacks that would allow it but for one thing";
+const WHY_NOT: &str =
+    "After no, print why not: what grants lack that would allow it but for one thing";
 
 const WHY: &str = "After yes, print why: BINDING, its ROLE, the SOURCE role, its RULE, the SUBJECT";
 
