@@ -16,9 +16,6 @@ use Rattle.rbac_near.proofs.Adding.{none_some, still_some}
 use Rattle.rbac_near.proofs.LackingMember.{own_binding}
 
 module _ (p : PolicyView) (q : RequestView) where
-  pub finds_none : (m : Found) → ((t : Text) (y : Near) → get text_cmp m t ≡ Some y → ⊥) → FindsMembers p q 0 m
-  finds_none m empty = record { has = λ place n g group low. absurd (omega (arith, low)); only = λ t y e. absurd (empty t y e) }
-
   -- no grant of the next binding lacks only a member
   pub finds_same : (count : ℕ) (m : Found) → LackNoMember p q count → FindsMembers p q count m → FindsMembers p q (count + 1) m
   finds_same count m none f = record {

@@ -32,7 +32,7 @@ loop-place-preserved c =
           let v = w.or_insert.result.now in
           let x : Near = record { missing = Member; number = n; subject_place = i } in
           let new = map_with_value entry v in
-          let same : name ≡ group = w.in_ok-name.ensures ∙ w.as_bytes.ensures in
+          let same : name ≡ group = cc (w.in_ok-name.ensures, w.as_bytes.ensures) in
           let value : v ≡ unwrap_or (get text_cmp old name) x = cc (w.or_insert.ensures.value, w.in_ok-found.ensures.value) in
           let put : IsPutUnless name x old new = put_unless name x v old new (get text_cmp old name) refl value (w.in_ok-found.ensures.update.0 v).0 in
           let is : s ≡ ForGroup group = w.in-Group.is in
