@@ -13,7 +13,7 @@ use Rattle.rbac_terms.proofs.Orderings.{equal_from_test}
 use Rattle.rbac_terms.specs.Text.{Text, text_cmp}
 use Rattle.rbac_terms.specs.declared.granting.Subject.{Subject}
 use Rattle.rbac_terms.specs.declared.granting.Subject.TheVariants.{Group as ForGroup}
-use Rattle.rbac_near.specs.Members.{AddsGroups, Found, IsForGroup}
+use Rattle.rbac_near.specs.Members.{Found, IsForGroup}
 use Rattle.rbac_near.specs.declared.near.Missing.TheVariants.{Member}
 use Rattle.rbac_near.specs.declared.near.Near.{Near}
 
@@ -79,12 +79,6 @@ module _ (n : ℕ) (subjects : List Subject) where
     pub kept : (t : Text) (y : Near) → get text_cmp old t ≡ Some y → get text_cmp new t ≡ Some y
     pub has : (group : Text) → Contains done (ForGroup group) → IsSome (get text_cmp new group)
     pub only : (t : Text) (y : Near) → get text_cmp new t ≡ Some y → (get text_cmp old t ≡ Some y) ⊎ ((get text_cmp old t ≡ None) × IsForGroup n subjects t y)
-
-  pub adds_none : (m : Found) → AddsOf [] m m
-  adds_none m = record { kept = λ t y e. e; has = λ group w. absurd (omega (arith, w.1)); only = λ t y e. inl e }
-
-  pub adds_all : (a b : Found) → AddsOf subjects a b → AddsGroups n subjects a b
-  adds_all a b adds = record { kept = adds.kept; has = adds.has; only = adds.only }
 
   -- a subject that is no group adds nothing
   pub adds_other : (done : List Subject) (s : Subject) (a b : Found) → ((group : Text) → s ≡ ForGroup group → ⊥) → AddsOf done a b → AddsOf (done ++ s ∷ []) a b

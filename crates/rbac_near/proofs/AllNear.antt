@@ -42,7 +42,7 @@ is_member Member = inl refl
 
 module _ (p : PolicyView) (q : RequestView) where
   -- a first near grant to a group is a near grant
-  pub near_member : (group : Text) (x : Near) → IsMemberOf p q group x → IsNear p q x
+  near_member : (group : Text) (x : Near) → IsMemberOf p q group x → IsNear p q x
   near_member group x (g, first, for) = record {
     grant = g;
     here = first.here;

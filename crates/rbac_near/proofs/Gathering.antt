@@ -1,11 +1,10 @@
 -- The near grants to groups, binding by binding.
-use Rattle.std.proofs.Common.{◌≡◌, ◌<◌, ◌≤◌, ◌+◌, ℕ, Some, None, IsSome, Contains, slice_get, inl, inr, refl, sym, ap, ◌∙◌, subst, arith}
+use Rattle.std.proofs.Common.{◌≡◌, ◌<◌, ◌≤◌, ◌+◌, ℕ, Some, None, Contains, slice_get, inl, inr, refl, sym, ap, ◌∙◌, subst, arith}
 use Rattle.std.specs.BTreeMap.{get}
 use Rattle.std.proofs.lemmas.Bool.{cases_lt}
 use Rattle.std.proofs.lemmas.Option.{same_Some, slice_get_within, get_or_from_slice_get}
 use Rattle.rbac_terms.specs.Text.{Text, text_cmp}
 use Rattle.rbac_terms.specs.declared.granting.Binding.{Binding}
-use Rattle.rbac_terms.specs.declared.granting.Subject.{Subject}
 use Rattle.rbac_terms.specs.declared.granting.Subject.TheVariants.{Group as ForGroup}
 use Rattle.rbac_model.specs.Lists.{IsFirstAt}
 use Rattle.rbac_model.specs.Policies.{GrantView, IsOfBinding, IsPolicy, PolicyView}
@@ -17,9 +16,6 @@ use Rattle.rbac_near.proofs.Adding.{none_some, still_some}
 use Rattle.rbac_near.proofs.LackingMember.{own_binding}
 
 module _ (p : PolicyView) (q : RequestView) where
-  pub finds_none : (m : Found) → ((t : Text) (y : Near) → get text_cmp m t ≡ Some y → ⊥) → FindsMembers p q 0 m
-  finds_none m empty = record { has = λ place n g group low. absurd (omega (arith, low)); only = λ t y e. absurd (empty t y e) }
-
   -- no grant of the next binding lacks only a member
   pub finds_same : (count : ℕ) (m : Found) → LackNoMember p q count → FindsMembers p q count m → FindsMembers p q (count + 1) m
   finds_same count m none f = record {

@@ -24,7 +24,7 @@ use Rattle.rbac_near.specs.declared.near.Near.{Near}
 abbrev near_numbers : Near → List ℕ
 near_numbers x = missing_rank x.missing ∷ x.number ∷ x.subject_place ∷ []
 
-pub near_total : IsTotalOrder near_cmp
+near_total : IsTotalOrder near_cmp
 near_total = on_total (λ (x : Near). near_numbers x) nat_list_cmp_total
 
 pub near_ranks : IsStrictWeakOrder (λ x y. is_lt (near_cmp x y))

@@ -4,7 +4,7 @@ use Rattle.std.proofs.lemmas.Option.{same_Some}
 use Rattle.rbac_terms.specs.Matching.{RuleAllows}
 use Rattle.rbac_terms.specs.declared.granting.Binding.{Binding}
 use Rattle.rbac_model.specs.Policies.{BindingNames, GrantView, IsOfBinding, Live, PolicyView}
-use Rattle.rbac_near.specs.Members.{IsFirstLacking, IsGrantOf, LackNoMember}
+use Rattle.rbac_near.specs.Members.{IsFirstLacking, LackNoMember}
 use Rattle.rbac_near.specs.Near.{Lacks, RequestView}
 use Rattle.rbac_near.specs.declared.near.Missing.TheVariants.{Member}
 

@@ -25,7 +25,7 @@ AreAdded p q place upto old new = (x : Near) → Contains new x ↔ (Contains ol
 
 module _ (p : PolicyView) (q : RequestView) where
   -- a grant of a binding that names who asks, told by the first subject that does, is near by what it lacks
-  pub is_near : (m : Missing) (g : GrantView) (n i : ℕ) → slice_get p.grants n ≡ Some g → BindingNames g.binding q.who → IsFirstNaming q g.binding i → LacksPart q m g
+  is_near : (m : Missing) (g : GrantView) (n i : ℕ) → slice_get p.grants n ≡ Some g → BindingNames g.binding q.who → IsFirstNaming q g.binding i → LacksPart q m g
       → IsNear p q (record { missing = m; number = n; subject_place = i }) × (m ≢ Member)
   is_near Namespace g n i here named by l = (record { grant = g; here = here; lacks = (named, l); told = by }, λ e. let both : Namespace ≡ Member = e in cc)
   is_near Verb g n i here named by l = (record { grant = g; here = here; lacks = (named, l); told = by }, λ e. let both : Verb ≡ Member = e in cc)
@@ -35,7 +35,7 @@ module _ (p : PolicyView) (q : RequestView) where
   is_near Member g n i here named by l = absurd l
 
   -- where something else than a member is missing, the binding names who asks
-  pub parts_at : (m : Missing) (g : GrantView) (n i : ℕ) → m ≢ Member → Lacks q m g → IsToldBy p q m g n i → BindingNames g.binding q.who × IsFirstNaming q g.binding i × LacksPart q m g
+  parts_at : (m : Missing) (g : GrantView) (n i : ℕ) → m ≢ Member → Lacks q m g → IsToldBy p q m g n i → BindingNames g.binding q.who × IsFirstNaming q g.binding i × LacksPart q m g
   parts_at Namespace g n i not l told = (l.0, told, l.1)
   parts_at Verb g n i not l told = (l.0, told, l.1)
   parts_at Group g n i not l told = (l.0, told, l.1)
@@ -58,14 +58,14 @@ module _ (p : PolicyView) (q : RequestView) where
       named = (i, by.0, slice_get_within b.subjects i by.0 by.1.here, get_or_from_slice_get b.subjects i by.0 by.0 by.1.here, by.1.holds)
 
       module _ (n : ℕ) (g : GrantView) (here : slice_get p.grants n ≡ Some g) (of : IsOfBinding p n place) where
-        pub is_named_of : (m : Missing) → LacksPart q m g → IsNamedOf p q place (record { missing = m; number = n; subject_place = i })
+        is_named_of : (m : Missing) → LacksPart q m g → IsNamedOf p q place (record { missing = m; number = n; subject_place = i })
         is_named_of m l =
             let same = sym (own n g here of) in
             let near = is_near m g n i here (subst (λ (v : Binding). BindingNames v q.who) same named) (subst (λ (v : Binding). IsFirstNaming q v i) same by) l in
             (near.0, near.1, of)
 
         -- what is near by this grant lacks this of it, and is told by this subject
-        pub named_at : (x : Near) → IsNamedOf p q place x → x.number ≡ n → LacksPart q x.missing g × (x ≡ record { missing = x.missing; number = n; subject_place = i })
+        named_at : (x : Near) → IsNamedOf p q place x → x.number ≡ n → LacksPart q x.missing g × (x ≡ record { missing = x.missing; number = n; subject_place = i })
         named_at x (near, other, at) e =
             let parts = parts_at x.missing near.grant x.number x.subject_place other near.lacks near.told in
             let grant : near.grant ≡ g = same_Some near.grant g (sym near.here ∙ ap (slice_get p.grants) e ∙ here) in
@@ -139,11 +139,7 @@ module _ (p : PolicyView) (q : RequestView) where
 
   -- ---- binding by binding
 
-  -- the near grants of no binding
-  pub named_of_none : (x : Near) → Contains [] x ↔ ((place : ℕ) × (place < 0) × IsNamedOf p q place x)
-  named_of_none x = (λ w. absurd (omega (arith, w.1)), λ w. absurd (omega (arith, w.1)))
-
-  -- and those of one more
+  -- the near grants of one more binding
   pub named_of_more : (count : ℕ) (old new : List Near) → ((x : Near) → Contains old x ↔ ((place : ℕ) × (place < count) × IsNamedOf p q place x))
       → ((x : Near) → Contains new x ↔ (Contains old x ⊎ IsNamedOf p q count x)) → (x : Near) → Contains new x ↔ ((place : ℕ) × (place < count + 1) × IsNamedOf p q place x)
   named_of_more count old new are added x = (

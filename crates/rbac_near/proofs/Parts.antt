@@ -4,7 +4,7 @@ use Rattle.rbac_terms.specs.Text.{Text, slash, star}
 use Rattle.rbac_terms.proofs.Texts.{IsCutAtFirst-contains, IsCutAtFirst-prefix}
 use Rattle.rbac_near.specs.Near.{IsBeforeSubresource, IsOfResource}
 
-pub one_part : (text a b : Text) → IsBeforeSubresource text a → IsBeforeSubresource text b → a ≡ b
+one_part : (text a b : Text) → IsBeforeSubresource text a → IsBeforeSubresource text b → a ≡ b
 one_part text a b (inl x) (inl y) = IsCutAtFirst-prefix text a b x.0 y.0 slash x.1 y.1
 one_part text a b (inl x) (inr y) = absurd (y.0 (IsCutAtFirst-contains text a x.0 slash x.1))
 one_part text a b (inr x) (inl y) = absurd (x.0 (IsCutAtFirst-contains text b y.0 slash y.1))

@@ -2,7 +2,6 @@ use Rattle.std.proofs.Common.{◌≡◌, ◌+◌, ◌++◌, ◌∷◌, [], ◌�
 use Rattle.std.specs.BTreeMap.{get}
 use Rattle.std.specs.BTreeMap.Entry.{map_with_value}
 use Rattle.std.specs.Option.{unwrap_or}
-use Rattle.std.proofs.lemmas.List.{take_all}
 use Rattle.std.proofs.lemmas.Option.{slice_get_read}
 use Rattle.rbac_terms.specs.Text.{Text, text_cmp}
 use Rattle.rbac_terms.specs.declared.granting.Subject.{Subject}
@@ -11,7 +10,7 @@ use Rattle.rbac_model.proofs.Stairs.{take_read}
 use Rattle.rbac_near.specs.Members.{Found}
 use Rattle.rbac_near.specs.declared.near.Missing.TheVariants.{Member}
 use Rattle.rbac_near.specs.declared.near.Near.{Near}
-use Rattle.rbac_near.proofs.Adding.{AddsOf, IsPutUnless, adds_all, adds_more, adds_other, put_unless}
+use Rattle.rbac_near.proofs.Adding.{AddsOf, IsPutUnless, adds_more, adds_other, put_unless}
 use Rattle.rbac_near.proofs.members.add_groups.Goals as goal
 use Rattle.rbac_near.proofs.members.add_groups.Goals.{in-Group+in_ok-name+in_ok-found, in_default}
 
@@ -33,7 +32,7 @@ loop-place-preserved c =
           let v = w.or_insert.result.now in
           let x : Near = record { missing = Member; number = n; subject_place = i } in
           let new = map_with_value entry v in
-          let same : name ≡ group = w.in_ok-name.ensures ∙ w.as_bytes.ensures in
+          let same : name ≡ group = cc (w.in_ok-name.ensures, w.as_bytes.ensures) in
           let value : v ≡ unwrap_or (get text_cmp old name) x = cc (w.or_insert.ensures.value, w.in_ok-found.ensures.value) in
           let put : IsPutUnless name x old new = put_unless name x v old new (get text_cmp old name) refl value (w.in_ok-found.ensures.update.0 v).0 in
           let is : s ≡ ForGroup group = w.in-Group.is in

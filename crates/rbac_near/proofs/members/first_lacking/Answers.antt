@@ -1,8 +1,9 @@
-use Rattle.std.proofs.Common.{◌≡◌, ◌<◌, ◌∙◌, Some, arith, length, refl, slice_get, subst, sym}
+use Rattle.std.proofs.Common.{◌≡◌, ◌<◌, Some, arith, length, refl, rules, slice_get, subst}
 use Rattle.std.proofs.lemmas.Bool.{both_ways}
 use Rattle.std.proofs.lemmas.Option.{slice_get_read}
 use Rattle.rbac_model.specs.Policies.{IsOfBinding}
 use Rattle.rbac_model.specs.Sources.{grant_of}
+use Rattle.rbac_near.specs.Members.{IsFirstLacking}
 use Rattle.rbac_near.specs.Near.{request_of}
 use Rattle.rbac_near.proofs.LackingMember.{first_lacking, none_allowing, none_for_others}
 use Rattle.rbac_near.proofs.members.first_lacking.Goals as goal
@@ -26,8 +27,9 @@ returns-then-rule_allows c =
     let between = c.grants_of-from.ensures.between in
     let of : IsOfBinding p n c.args.place = subst (λ at. IsOfBinding p n at) ((between n c.grant.result.binding_place c.grant.ensures.binding).0 (c.loop-number.auto.number, c.loop-number-test.true)) c.grant.ensures.binding in
     let within : n < length p.grants = omega (arith, c.loop-number-test.true, c.grants_of-from.ensures.within) in
-    first_lacking p q c.args.place b there c.grants_of-from.result.0 c.grants_of-from.result.1 between n own c.loop-number.invariant within of c.grant.ensures.grant (c.counts_for_others.ensures.0 c.if-not-counts_for_others.false)
-    (c.rule_allows.ensures.0 c.if-rule_allows.true)
+    let told : IsFirstLacking p q c.args.place n = first_lacking p q c.args.place b there c.grants_of-from.result.0 c.grants_of-from.result.1 between n own c.loop-number.invariant within of c.grant.ensures.grant (c.counts_for_others.ensures.0 c.if-not-counts_for_others.false)
+    (c.rule_allows.ensures.0 c.if-rule_allows.true) in
+    search rules
 
 pub returns : goal.returns
 returns c =

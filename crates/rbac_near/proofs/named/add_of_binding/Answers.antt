@@ -1,4 +1,4 @@
-use Rattle.std.proofs.Common.{◌≡◌, ◌+◌, ◌++◌, ◌∷◌, [], Some, arith, inl, inr, refl, slice_get, subst}
+use Rattle.std.proofs.Common.{◌≡◌, ◌++◌, ◌∷◌, [], Some, inl, inr, refl, slice_get, subst}
 use Rattle.std.proofs.lemmas.Option.{slice_get_read}
 use Rattle.rbac_model.specs.Policies.{IsOfBinding}
 use Rattle.rbac_model.specs.Sources.{grant_of}
