@@ -12,6 +12,7 @@ MARK = '# tried by the gate'
 # As rt fmt lays a function out: how far it is indented, and its name.
 FUNCTION = re.compile(r'( *)(pub )?(?:pub\([a-z]+\) )?(?:const |unsafe )*fn (\w+)')
 IMPL = re.compile(r'impl\b')
+NAME = re.compile(r'\bfn (\w+)')
 
 
 class Edit:
@@ -55,6 +56,17 @@ class Edit:
                 at = text[:text.find(old)].count('\n')
                 functions.add(function_at(file, text.split('\n'), at, new.startswith(old)) if text.count(old) == 1 else None)
         return set() if None in functions else functions
+
+    def moved_in(self, texts):
+        """The functions that get a body of the edit's own in front of the one that they have, each with the name of the function that
+        has that one now."""
+        moved = {}
+        for file, old, new in self.pairs:
+            names = NAME.findall(new)
+            if file.startswith('src/') and new.startswith(old) and len(names) > 1:
+                text = texts[file]
+                moved[path_of(file, text.split('\n'), text[:text.find(old)].count('\n'))] = names[-1]
+        return moved
 
 
 def edits_of(crate, *tiers):

@@ -145,22 +145,32 @@ class Crate:
         parts = [it for it in path.split('::') if it != 'fn']
         return next((name for end in range(len(parts), 0, -1) for name in ['::'.join(parts[:end])] if name in self.functions), None)
 
-    def left_open(self, functions):
+    def left_open(self, functions, moved):
         """The files by which the proofs of all functions but these are left open, and those of lemmas, each with its text, or without
-        one if it goes."""
+        one if it goes. Where a body has moved to another function, its answers aren't about the body that was put in its place."""
         texts = {file: without_proofs(text) for file, text in self.texts.items() if LEMMAS.fullmatch(file)}
-        for name in self.functions - functions - self.in_cycles:
+        texts.update({file: None for name in moved for file in self.answers_of(name)})
+        for name in (self.functions - functions - self.in_cycles) | set(moved.values()):
             parts = name.split('::')
             if all(re.fullmatch(r'\w+', it) for it in parts):
-                folder = '/'.join(['proofs', *parts])
-                texts.update({file: None for file in (folder + '/Answers.antt', folder + '/Invariants.antt') if file in self.texts})
-                texts[folder + '/Proof.antt'] = OPEN % (self.name, '.'.join(parts), parts[-1], parts[-1])
+                texts.update({file: None for file in self.answers_of(name)})
+                texts['/'.join(['proofs', *parts, 'Proof.antt'])] = OPEN % (self.name, '.'.join(parts), parts[-1], parts[-1])
         return texts
 
-    def said_of(self, texts, functions):
+    def moved_by(self, edit):
+        """The functions whose bodies an edit moves to other functions, each with that function."""
+        moved = {self.named(it): name for it, name in edit.moved_in(self.texts).items()}
+        return {it: '::'.join([*it.split('::')[:-1], name]) for it, name in moved.items()}
+
+    def answers_of(self, function):
+        """The files with the answers and the invariants of a function, as far as it has any."""
+        files = ('/'.join(['proofs', *function.split('::'), it]) for it in ('Answers.antt', 'Invariants.antt'))
+        return [file for file in files if file in self.texts]
+
+    def said_of(self, texts, functions, moved):
         """What the prover says of these functions, with these texts; nothing once this was ended."""
         changes = {file: text for file, text in texts.items() if text != self.texts[file]}
-        changes.update(self.left_open(functions))
+        changes.update(self.left_open(functions, moved))
         self.write(changes)
         try:
             with self.lock:
@@ -201,10 +211,11 @@ class Crate:
     def tried(self, batch):
         """What each edit of a batch came to, and whether that may change without the others. Where the prover reads none of them, since
         one doesn't compile, each half is tried."""
-        texts = self.texts
+        texts, moved = self.texts, {}
         for edit, _ in batch:
             texts = edit.made_in(texts)
-        said = self.said_of(texts, {self.named(it) for _, functions in batch for it in functions})
+            moved.update(self.moved_by(edit))
+        said = self.said_of(texts, {self.named(it) for _, functions in batch for it in functions}, moved)
         if not ENDED.search(said):
             half = len(batch) // 2
             return {**self.tried(batch[:half]), **self.tried(batch[half:])} if half else {batch[0][0]: (Kind.UNREAD, False)}
