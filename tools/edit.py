@@ -85,6 +85,19 @@ def body_of(lines, start, indent):
     return next(opened, end), end
 
 
+def without_bodies(text, is_stub):
+    """The text in which each function that begins at a line of which this is so stops at once."""
+    lines, kept, at = text.split('\n'), [], 0
+    for start, line in enumerate(lines):
+        found = FUNCTION.match(line)
+        if found and start >= at and is_stub(lines, start):
+            begins, ends = body_of(lines, start, found[1])
+            if begins < ends and not any(FUNCTION.match(it) for it in lines[start + 1:ends]):
+                kept += [*lines[at:begins + 1], found[1] + '    unreachable!()']
+                at = ends
+    return '\n'.join(kept + lines[at:])
+
+
 def function_at(file, lines, at, has_own_body):
     """The function in whose body the line is, as the prover names it below its crate; None outside of all bodies. An edit that puts
     a body of its own behind a function's first line is in that function."""
