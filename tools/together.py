@@ -23,8 +23,8 @@ import threading
 from copies import with_below
 from edit import in_cycles, path_of, without_bodies
 
-# With too many at once, one that doesn't compile spoils too much.
-MOST = 24
+# Each check reads all libraries. With too many edits at once, one that doesn't compile spoils too much.
+MOST = 60
 # What the prover says of a goal that has no answer in a proof file, above the line of its function; of one whose answer is a search that
 # finds nothing; and of an answer whose goal is there no more. Whatever else it says of an answer is that this doesn't fit.
 NOT_PROVED = re.compile(r'(?:note: )?(?:\./)?src/\w+\.rt:\d+:\d+: it is not proved that')
