@@ -23,7 +23,6 @@ MOST_ALONE = 40
 NOT_YET = '''
     rbac_cli::running::run rbac_cli::running::run_into rbac_command::read::command_of rbac_manifest::loading::load_policy
     rbac_matrix::every_rows::EveryRows::meter
-    rbac_paths::all_paths::paths rbac_paths::all_steps::powers rbac_paths::all_ways::ways_to
 '''.split()
 
 
