@@ -32,7 +32,8 @@ for edit in sorted(glob.glob('crates/*/must-fail/*.edit')):
     print('rt: must-fail %s/%s: refused, as it must be' % (edit.split('/')[1], edit.split('/')[3]))
 '''
 # The prover finds a goal open in each function that has the word WRONG, finds an answer stale for the word STALE and a goal gone for GONE, can't
-# read a crate with the word SPOILED, and looks only at the functions that it is asked about; the proofs of all others have to be open.
+# read a crate with the word SPOILED, and looks only at the functions that it is asked about; the proofs of all others have to be open. A body that
+# is put in front of the right one has no answers.
 PROVER = '''#!/usr/bin/env python3
 import glob, os, re, sys
 asked = {word for at, word in enumerate(sys.argv) if sys.argv[at - 1] == '--only'}
@@ -42,13 +43,14 @@ if any('SPOILED' in text for text in texts.values()):
     sys.exit('error[unknown-name]: SPOILED')
 for file, text in texts.items():
     module = os.path.basename(file)[:-3]
-    for name, body in re.findall(r'fn (\\w+)(.*?\\n\\})', text, re.S):
+    for name, body in re.findall(r'fn (\\w+)(.*?(?:\\n\\}|\\}(?= fn )))', text, re.S):
         path = '::'.join([crate, *[module] * (module != 'lib'), name])
         proofs = '/'.join(['proofs', *path.split('::')[1:]])
         if path not in asked:
             assert '%s_spec = ?' % name in open(proofs + '/Proof.antt').read()
             assert not os.path.exists(proofs + '/Answers.antt')
             continue
+        assert name + '_itself' not in text or not os.path.exists(proofs + '/Answers.antt')
         for word, fault in (('STALE', '`returns`: as printed, the two types differ only where one has `1`'),
                             ('GONE', '`goal`: module `Goals` has no `returns`'), ('UNFOUND', '`returns`: `search`: no proof of `1`')):
             if word in body:
@@ -157,15 +159,17 @@ def kinds():
     """An edit is refused by a goal that isn't proved, and undecided where only a stored answer no longer fits; the gate takes no undecided one."""
     edits = {name: edit_of('first', new) for name, (new, _) in KINDS.items()}
     edits.update(of_a_const=edit_of('= 1;', '= 2;'), of_a_contract=edit_of('result', 'most'))
+    in_front = {'in_front': ('WRONG', 'refused'), 'as_good_in_front': ('one_itself()', 'NOT')}
+    edits.update({name: edit_of('fn one() {', 'fn one() { %s } fn one_itself() {' % new) for name, (new, _) in in_front.items()})
     source = 'const LEAST: usize = 1;\n\n' + BODY % ('one', 'first') + '\nfn three()\n    ensures { result }\n{\n    third\n}\n'
     files = {**FILES, 'crates/low/src/a.rt': source, 'crates/high/must-fail/of_high.edit': edit_of('third', 'STALE', 'src/lib.rt')}
     files.update({'crates/low/wrong-bodies/%s.edit' % name: text for name, text in edits.items()})
     with repository(files) as folder:
         said, found = tried(folder)
-        wanted = {'low/' + name: kind for name, (_, kind) in KINDS.items()}
+        wanted = {'low/' + name: kind for name, (_, kind) in {**KINDS, **in_front}.items()}
         checked('each kind', all(found.get(name) == kind for name, kind in wanted.items()), said)
         checked('what is in no body is tried by itself', found.get('low/of_a_const') == found.get('low/of_a_contract') == 'refused', said)
-        checked('undecided ones are counted by crate, but fail in must-fail/', 'undecided: low 3\n' in said and '7 passed, 3 failed' in said and
+        checked('undecided ones are counted by crate, but fail in must-fail/', 'undecided: low 3\n' in said and '8 passed, 4 failed' in said and
                 'FAIL high/of_high.edit: undecided' in said, said)
         for name in ('goal', 'stale_answer'):
             written(folder, {'crates/low/wrong-bodies/%s.edit' % name: '# tried by the gate\n' + edits[name]})

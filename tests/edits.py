@@ -21,10 +21,8 @@ MOST_ALONE = 40
 # Public functions of which no wrong body is known yet that a goal refuses, at a cost that the gate can bear. Some wrong bodies of each are tried by
 # `make wrong-bodies`.
 NOT_YET = '''
-    json_list::one_pass::Unread::next_item rbac_cli::running::run rbac_cli::running::run_into rbac_command::read::command_of rbac_diff::change::changes
-    rbac_lint::linting::lint rbac_manifest::change::changed rbac_manifest::loading::load_policy rbac_manifest::loading::load_export
-    rbac_matrix::enumeration::Rows::meter rbac_matrix::every_repeats::EveryRows::pass_repeats rbac_matrix::every_rows::EveryRows::meter
-    rbac_paths::all_paths::paths rbac_paths::all_steps::powers rbac_paths::all_ways::ways_to
+    rbac_cli::running::run rbac_cli::running::run_into rbac_command::read::command_of rbac_manifest::loading::load_policy
+    rbac_matrix::every_rows::EveryRows::meter
 '''.split()
 
 

@@ -12,6 +12,7 @@ MARK = '# tried by the gate'
 # As rt fmt lays a function out: how far it is indented, and its name.
 FUNCTION = re.compile(r'( *)(pub )?(?:pub\([a-z]+\) )?(?:const |unsafe )*fn (\w+)')
 IMPL = re.compile(r'impl\b')
+NAME = re.compile(r'\bfn (\w+)')
 
 
 class Edit:
@@ -56,6 +57,17 @@ class Edit:
                 functions.add(function_at(file, text.split('\n'), at, new.startswith(old)) if text.count(old) == 1 else None)
         return set() if None in functions else functions
 
+    def moved_in(self, texts):
+        """The functions that get a body of the edit's own in front of the one that they have, each with the name of the function that
+        has that one now."""
+        moved = {}
+        for file, old, new in self.pairs:
+            names = NAME.findall(new)
+            if file.startswith('src/') and new.startswith(old) and len(names) > 1:
+                text = texts[file]
+                moved[path_of(file, text.split('\n'), text[:text.find(old)].count('\n'))] = names[-1]
+        return moved
+
 
 def edits_of(crate, *tiers):
     """The edits in the folder of a crate, by name."""
@@ -71,6 +83,19 @@ def body_of(lines, start, indent):
     end = next((it for it in range(start, len(lines)) if lines[it] == indent + '}'), start)
     opened = (it for it in range(start, end) if lines[it] == indent + '{' or re.match(indent + r'(\S.*)? \{$', lines[it]))
     return next(opened, end), end
+
+
+def without_bodies(text, is_stub):
+    """The text in which each function that begins at a line of which this is so stops at once."""
+    lines, kept, at = text.split('\n'), [], 0
+    for start, line in enumerate(lines):
+        found = FUNCTION.match(line)
+        if found and start >= at and is_stub(lines, start):
+            begins, ends = body_of(lines, start, found[1])
+            if begins < ends and not any(FUNCTION.match(it) for it in lines[start + 1:ends]):
+                kept += [*lines[at:begins + 1], found[1] + '    unreachable!()']
+                at = ends
+    return '\n'.join(kept + lines[at:])
 
 
 def function_at(file, lines, at, has_own_body):

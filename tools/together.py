@@ -1,8 +1,12 @@
 """Wrong bodies that are tried together, by one check of a crate.
 
 Each function is proved by itself, from the contracts of those that it calls, and a check takes as long to read the libraries as to refuse
-several edits. So edits of different functions are made at once, and the check is asked about these functions alone: the proof of every
-other one is left open, since `rt ci` has proved it. What this can't tell, such as an edit of a constant, is left to be tried by itself.
+several edits. So edits of different functions are made at once, and the check is asked about these functions alone. `rt ci` has proved every
+other one: its proof is left open, and its body taken out, since the prover also looks at all that a body calls. What this can't tell, such
+as an edit of a constant, is left to be tried by itself.
+
+An edit may also put a short wrong body in front of a long right one, which gets another name and is then such a function: so nothing long is
+proved anew.
 
 An edit is refused if the prover reports a goal of its function that isn't proved. Where it only says that a stored answer no longer fits,
 or that a name is gone, the edit is undecided: that says nothing of the contract.
@@ -17,10 +21,10 @@ import tempfile
 import threading
 
 from copies import with_below
-from edit import in_cycles
+from edit import in_cycles, path_of, without_bodies
 
-# With too many at once, one that doesn't compile spoils too much.
-MOST = 24
+# Each check reads all libraries. With too many edits at once, one that doesn't compile spoils too much.
+MOST = 60
 # What the prover says of a goal that has no answer in a proof file, above the line of its function; of one whose answer is a search that
 # finds nothing; and of an answer whose goal is there no more. Whatever else it says of an answer is that this doesn't fit.
 NOT_PROVED = re.compile(r'(?:note: )?(?:\./)?src/\w+\.rt:\d+:\d+: it is not proved that')
@@ -145,22 +149,44 @@ class Crate:
         parts = [it for it in path.split('::') if it != 'fn']
         return next((name for end in range(len(parts), 0, -1) for name in ['::'.join(parts[:end])] if name in self.functions), None)
 
-    def left_open(self, functions):
+    def left_open(self, functions, moved):
         """The files by which the proofs of all functions but these are left open, and those of lemmas, each with its text, or without
-        one if it goes."""
+        one if it goes. Where a body has moved to another function, its answers aren't about the body that was put in its place."""
         texts = {file: without_proofs(text) for file, text in self.texts.items() if LEMMAS.fullmatch(file)}
-        for name in self.functions - functions - self.in_cycles:
+        texts.update({file: None for name in moved for file in self.answers_of(name)})
+        for name in self.others(functions) | set(moved.values()):
             parts = name.split('::')
-            if all(re.fullmatch(r'\w+', it) for it in parts):
-                folder = '/'.join(['proofs', *parts])
-                texts.update({file: None for file in (folder + '/Answers.antt', folder + '/Invariants.antt') if file in self.texts})
-                texts[folder + '/Proof.antt'] = OPEN % (self.name, '.'.join(parts), parts[-1], parts[-1])
+            texts.update({file: None for file in self.answers_of(name)})
+            texts['/'.join(['proofs', *parts, 'Proof.antt'])] = OPEN % (self.name, '.'.join(parts), parts[-1], parts[-1])
         return texts
 
-    def said_of(self, texts, functions):
+    def others(self, functions):
+        """All functions but these whose proofs can be left open."""
+        return {it for it in self.functions - functions - self.in_cycles if re.fullmatch(r'\w+(::\w+)*', it)}
+
+    def without_bodies(self, texts, functions, moved):
+        """The sources in which all functions but these stop at once, and so call nothing that the prover would look at. Where a body has
+        moved to another function, it is this one that stops."""
+        others = self.others(functions) | moved.keys()
+        for file, text in texts.items():
+            if file.startswith('src/'):
+                yield file, without_bodies(text, lambda lines, start, file=file: self.named(path_of(file, lines, start)) in others)
+
+    def moved_by(self, edit):
+        """The functions whose bodies an edit moves to other functions, each with that function."""
+        moved = {self.named(it): name for it, name in edit.moved_in(self.texts).items()}
+        return {it: '::'.join([*it.split('::')[:-1], name]) for it, name in moved.items()}
+
+    def answers_of(self, function):
+        """The files with the answers and the invariants of a function, as far as it has any."""
+        files = ('/'.join(['proofs', *function.split('::'), it]) for it in ('Answers.antt', 'Invariants.antt'))
+        return [file for file in files if file in self.texts]
+
+    def said_of(self, texts, functions, moved):
         """What the prover says of these functions, with these texts; nothing once this was ended."""
+        texts = {**texts, **dict(self.without_bodies(texts, functions, moved))}
         changes = {file: text for file, text in texts.items() if text != self.texts[file]}
-        changes.update(self.left_open(functions))
+        changes.update(self.left_open(functions, moved))
         self.write(changes)
         try:
             with self.lock:
@@ -201,10 +227,11 @@ class Crate:
     def tried(self, batch):
         """What each edit of a batch came to, and whether that may change without the others. Where the prover reads none of them, since
         one doesn't compile, each half is tried."""
-        texts = self.texts
+        texts, moved = self.texts, {}
         for edit, _ in batch:
             texts = edit.made_in(texts)
-        said = self.said_of(texts, {self.named(it) for _, functions in batch for it in functions})
+            moved.update(self.moved_by(edit))
+        said = self.said_of(texts, {self.named(it) for _, functions in batch for it in functions}, moved)
         if not ENDED.search(said):
             half = len(batch) // 2
             return {**self.tried(batch[:half]), **self.tried(batch[half:])} if half else {batch[0][0]: (Kind.UNREAD, False)}
