@@ -32,8 +32,8 @@ for edit in sorted(glob.glob('crates/*/must-fail/*.edit')):
     print('rt: must-fail %s/%s: refused, as it must be' % (edit.split('/')[1], edit.split('/')[3]))
 '''
 # The prover finds a goal open in each function that has the word WRONG, finds an answer stale for the word STALE and a goal gone for GONE, can't
-# read a crate with the word SPOILED, and looks only at the functions that it is asked about; the proofs of all others have to be open. A body that
-# is put in front of the right one has no answers.
+# read a crate with the word SPOILED, and looks only at the functions that it is asked about; the proofs of all others have to be open, and their
+# bodies gone. A body that is put in front of the right one has no answers.
 PROVER = '''#!/usr/bin/env python3
 import glob, os, re, sys
 asked = {word for at, word in enumerate(sys.argv) if sys.argv[at - 1] == '--only'}
@@ -47,7 +47,7 @@ for file, text in texts.items():
         path = '::'.join([crate, *[module] * (module != 'lib'), name])
         proofs = '/'.join(['proofs', *path.split('::')[1:]])
         if path not in asked:
-            assert '%s_spec = ?' % name in open(proofs + '/Proof.antt').read()
+            assert 'unreachable!()' in body and '%s_spec = ?' % name in open(proofs + '/Proof.antt').read()
             assert not os.path.exists(proofs + '/Answers.antt')
             continue
         assert name + '_itself' not in text or not os.path.exists(proofs + '/Answers.antt')

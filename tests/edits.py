@@ -21,7 +21,6 @@ MOST_ALONE = 40
 # Public functions of which no wrong body is known yet that a goal refuses, at a cost that the gate can bear. Some wrong bodies of each are tried by
 # `make wrong-bodies`.
 NOT_YET = '''
-    rbac_cli::running::run rbac_cli::running::run_into rbac_command::read::command_of rbac_manifest::loading::load_policy
     rbac_matrix::every_rows::EveryRows::meter
 '''.split()
 
