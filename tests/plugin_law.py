@@ -12,7 +12,7 @@ import os
 import random
 import sys
 
-from common import TOP, V1, checked, tested
+from common import TOP, V1, tested
 from meaning import groups_of, is_named, name_of, rule_allows
 from plugin_room import in_each_shell, room
 
