@@ -62,7 +62,7 @@ install: $(shell $(IS_BUILT) || echo build)
 	install -m 755 $(PROGRAM) $(DESTDIR)$(PREFIX)/bin/rbacaudit
 	install -m 755 plugin/kubectl-rbacaudit $(DESTDIR)$(PREFIX)/bin/kubectl-rbacaudit
 	install -m 755 plugin/kubectl_complete-rbacaudit $(DESTDIR)$(PREFIX)/bin/kubectl_complete-rbacaudit
-	install -m 644 plugin/rbacaudit_kubectl/*.py $(HULL)
+	install -m 644 plugin/rbacaudit_kubectl/*.py plugin/rbacaudit_kubectl/defaults.json $(HULL)
 	@python3 -m compileall -q $(HULL) >/dev/null 2>&1 || true
 	install -m 755 plugin/rbacaudit-page $(DESTDIR)$(PREFIX)/bin/rbacaudit-page
 	install -m 755 plugin/rbacaudit-show $(DESTDIR)$(PREFIX)/bin/rbacaudit-show

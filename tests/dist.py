@@ -48,7 +48,7 @@ PLACES = {'bin/rbacaudit': None, 'bin/kubectl-rbacaudit': 'plugin/kubectl-rbacau
           **{'share/fish/vendor_completions.d/%s.fish' % name: 'completions/%s.fish' % name for name in ('rbacaudit', 'rbacaudit-page', 'rbacaudit-show')},
           **{'share/man/man1/%s.1' % name: 'man/%s.1' % name for name in ('rbacaudit', 'rbacaudit-page', 'rbacaudit-show', 'kubectl-rbacaudit')},
           **{'lib/rbacaudit/rbacaudit_kubectl/' + name: 'plugin/rbacaudit_kubectl/' + name
-             for name in os.listdir(os.path.join(TOP, 'plugin', 'rbacaudit_kubectl')) if name.endswith('.py')},
+             for name in os.listdir(os.path.join(TOP, 'plugin', 'rbacaudit_kubectl')) if name.endswith(('.py', '.json'))},
           **{'share/rbacaudit/page/' + name: 'page/' + name for name in os.listdir(os.path.join(TOP, 'page'))}}
 
 

@@ -3,7 +3,7 @@
 plugin_room.py has the stand-in, plugin_exports.py the exports, plugin_questions.py the questions, plugin_paths.py those of paths,
 plugin_remarks.py what is said beside answers, plugin_changes.py and plugin_manifests.py changes and manifests, plugin_advice.py what is said behind errors,
 plugin_server.py both once more with kubectl itself, plugin_terminal.py what a terminal shows, plugin_show.py formats and summaries,
-and plugin_sarif.py what code hosts get.
+plugin_sarif.py what code hosts get, plugin_states.py what manifests alone don't know of a cluster, and plugin_law.py the law of that.
 Here are the tools that the plugin needs, its texts, completions and man page, and make. What is
 skipped, since this machine lacks a tool, stands in the last line but one. The last line is
 `N passed, M failed`.
@@ -20,6 +20,7 @@ import tempfile
 import plugin_advice
 import plugin_changes
 import plugin_exports
+import plugin_law
 import plugin_manifests
 import plugin_paths
 import plugin_questions
@@ -27,6 +28,7 @@ import plugin_remarks
 import plugin_sarif
 import plugin_server
 import plugin_show
+import plugin_states
 import plugin_terminal
 from common import PROGRAM, TOP, checked, skipped, tested
 from plugin_room import KIM, PLUGIN, SHELLS, in_each_shell
@@ -117,7 +119,8 @@ HELP = ('-h', '--help')
 OF_PAGE = {('-n', '--namespace'): 'NS', ('--output',): 'FILE', ('--title',): 'TEXT',
            ('--diff',): 'FILE', ('--every',): ''}
 OF_READ = {('-n', '--namespace'): 'NS'}
-OF_DIFF = {('--with',): 'PATH', ('--without',): 'PATH', ('--from',): 'PATH', ('--to',): 'PATH', ('--summary',): '', ('--fail-on',): 'WHAT', **OF_READ}
+BARE = {('--no-defaults',): ''}
+OF_DIFF = {('--with',): 'PATH', ('--without',): 'PATH', ('--from',): 'PATH', ('--to',): 'PATH', ('--summary',): '', ('--fail-on',): 'WHAT', **BARE, **OF_READ}
 OF_EXPORT = {('--force',): '', ('-n', '--namespace'): 'NS', ('--context',): 'NAME',
              ('--kubeconfig',): 'FILE',
              ('--request-timeout',): 'TIME', ('--as',): 'USER', ('--as-group',): 'GROUP'}
@@ -176,7 +179,7 @@ def options_of(command):
     if command in ('diff', 'read', 'export', 'universe', 'page'):
         own = {'export': OF_EXPORT, 'universe': OWN, 'page': {**OWN, **OF_PAGE}, 'diff': {**OWN, **OF_DIFF, **SHOWN}, 'read': OF_READ}[command]
         return {**own, HELP: ''}
-    return {**{names: value for names, (value, _) in options(command).items()}, **OWN, **SHOWN}
+    return {**{names: value for names, (value, _) in options(command).items()}, **OWN, **SHOWN, **(BARE if command == 'lint' else {})}
 
 
 @in_each_shell
@@ -276,4 +279,5 @@ def told(words_, folder, tools_=os.path.dirname(PROGRAM)):
 if __name__ == '__main__':
     sys.exit(tested(*plugin_exports.CHECKS, *plugin_questions.CHECKS, *plugin_paths.CHECKS, *plugin_remarks.CHECKS, *plugin_changes.CHECKS, *plugin_manifests.CHECKS, *plugin_advice.CHECKS,
                     *plugin_server.CHECKS, *plugin_terminal.CHECKS, *plugin_show.CHECKS, *plugin_sarif.CHECKS,
+                    *plugin_states.CHECKS, *plugin_law.CHECKS,
                     tools, script, make_run, completions, in_kubectl, man_page))

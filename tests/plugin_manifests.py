@@ -16,7 +16,7 @@ import textwrap
 from common import TOP, V1, skipped
 from local_kubectl import yaml
 from plugin_changes import EMPTY, GAINED, ROLE, a_list, binding, culprit, read
-from plugin_room import PLUGIN, SHELLS, STAND_IN, document, in_each_shell, room, served
+from plugin_room import OWN, PLUGIN, SHELLS, STAND_IN, document, in_each_shell, room, served
 
 def without_network():
     """The command that takes the network away from another, where this machine lets it."""
@@ -328,8 +328,8 @@ def taken_away(it):
         'check each kind and apiVersion in them\n'), got)
 
 
-MISSING = ('kubectl-rbacaudit: neither side has these roles, so bindings to them grant nothing here: %s; '
-           '--export DIR compares with the roles of a cluster\n')
+UNKNOWN = ('kubectl-rbacaudit: nobody knows the roles of these bindings, so nothing is answered: %s; give a file with the role on both sides, or '
+           '--export DIR, an export of a cluster that has it; --partial leaves these bindings out\n')
 # A branch and a change of it, which takes Bob away, lets Ann watch, and moves Kim to a role of the cluster.
 MAIN = {'main/rbac/roles.json': a_list('List', 'v1', role('r', 'a'), role('s', 'b')),
         'main/rbac/bindings.json': a_list('List', 'v1', bound('r', 'a', 'ann'), bound('s', 'b', 'bob'), bound('kim', 'a', 'kim', 'Role', 'r'))}
@@ -344,10 +344,14 @@ def states(it):
     """Two states of manifests, without a cluster, and as a change of one."""
     put(it, {**MAIN, **CHANGE})
     pair = ['--from', 'main/rbac', '--to', 'change/rbac']
-    got = without_cluster(it, 'diff', *pair)
-    it.checked('without a cluster', got == (1, ANN + BOB + KIM, BOTH + MISSING % 'ClusterRole/view'), got)
+    status, out, err = got = without_cluster(it, 'diff', *pair)
+    # (Kim has the role view instead, which lets its holders get pods too)
+    others = [line_ for line_ in out.splitlines(True) if not line_.startswith('+\tu:kim\ta\t')]
+    it.checked('without a cluster', (status, others, err) == (1, [ANN, BOB], BOTH + OWN) and line('+', 'kim', 'a', 'list', 'kim') in out, got)
     got = without_cluster(it, 'diff', '--from=main/rbac', '--to=main/rbac')
-    it.checked('the same', got == (0, '', 2 * read('main/rbac', '2 roles, 3 bindings, 0 other objects')), got)
+    it.checked('the same', got == (0, '', 2 * read('main/rbac', '2 roles, 3 bindings, 0 other objects') + OWN), got)
+    got = without_cluster(it, 'diff', *pair, '--no-defaults')
+    it.checked("without Kubernetes' own", got == (2, '', BOTH + UNKNOWN % 'RoleBinding/a/kim to ClusterRole/view'), got)
     put(it, {'prod/cluster.json': list_role('view'),
              'prod/namespaced.json': a_list('List', 'v1', role('r', 'a'), role('s', 'b'), bound('r', 'a', 'ann'), bound('s', 'b', 'bob'),
                                             bound('kim', 'a', 'kim', 'Role', 'r'), role('t', 'a'), bound('t', 'a', 'tim'))})
@@ -358,10 +362,12 @@ def states(it):
     for number, item in enumerate(missing):
         item['metadata']['name'] = 'x%d' % number
     put(it, {'main/rbac/bindings.json': a_list('List', 'v1', *missing)})
-    status, out, err = got = without_cluster(it, 'diff', *pair)
-    it.checked('more that are missing', err.endswith(MISSING % 'ClusterRole/b, ClusterRole/c, ClusterRole/view and 1 more'), got)
+    got = without_cluster(it, 'diff', *pair)
+    it.checked('roles that nobody knows', got == (2, '', BOTH.replace('3 bindings', '4 bindings') + OWN + UNKNOWN % (
+        'RoleBinding/a/x0 to Role/a/x, RoleBinding/a/x1 to ClusterRole/b, RoleBinding/a/x2 to ClusterRole/c')), got)
     status, out, err = got = without_cluster(it, 'diff', '--from', '-', '--to', 'change/rbac', stdin=None, input=json.dumps(role('r', 'a')).encode())
-    it.checked('from standard input', status == 1 and out == line('+', 'ann', 'a', 'get', 'r') + line('+', 'ann', 'a', 'watch', 'r')
+    others = [line_ for line_ in out.splitlines(True) if not line_.startswith('+\tu:kim\ta\t')]
+    it.checked('from standard input', status == 1 and others == [line('+', 'ann', 'a', 'get', 'r'), line('+', 'ann', 'a', 'watch', 'r')]
                and err.startswith(read('standard input')), got)
 
 
@@ -388,23 +394,24 @@ def linted(it):
                  'L7\treplaced-object\tRole/b/plain\t-\t1\tm/z.json']
     said = read('m', '7 roles, 1 binding, 2 other objects') + (
         'kubectl-rbacaudit: these have no namespace, and count in default: RoleBinding/gone\n')
-    status, out, err = got = without_cluster(it, 'lint', 'm')
-    it.checked('lint of a folder', (status, sorted(out.split('\n')), err) == (1, sorted([''] + findings), said + ALONE), got)
+    for options, more in (([], OWN), (['--no-defaults'], '')):
+        status, out, err = got = without_cluster(it, 'lint', *options, 'm')
+        it.checked('lint of a folder %s' % options, (status, sorted(out.split('\n')), err) == (1, sorted([''] + findings), said + more + ALONE), got)
     got = without_cluster(it, 'lint', '--only', 'L4,L7', '--', 'm/0.json', 'm/2.json')
     it.checked('lint of some files', got == (1, 'L4\tescalation\tRole/b/back\\\\slash\t1\tbind\tm/2.json\n'
                                              'L4\tescalation\tRole/b/plain\t1\tbind\tm/0.json\n',
-                                             read('m/0.json, m/2.json', '2 roles, 0 bindings, 0 other objects')), got)
+                                             read('m/0.json, m/2.json', '2 roles, 0 bindings, 0 other objects') + OWN), got)
     put(it, {'bad.json': {**role('x', 'b'), 'rules': [{}]}})
     got = without_cluster(it, 'lint', 'm/0.json', 'bad.json')
     both = 'm/0.json, bad.json'
-    it.checked('a bad object', got == (2, '', read(both, '2 roles, 0 bindings, 0 other objects') + 'rbacaudit: file 1 item 2: M5 bad rule 1\n'
+    it.checked('a bad object', got == (2, '', read(both, '2 roles, 0 bindings, 0 other objects') + OWN + 'rbacaudit: file 1 item 2: M5 bad rule 1\n'
                                        + culprit(1, both, 2, 'Role b/x, in bad.json')), got)
     deep = {}
     for _ in range(130):
         deep = {'x': deep}
     put(it, {'m/0.json': role('x', 'b'), 'bad.json': {**POD, 'spec': deep}})
     got = without_cluster(it, 'lint', 'm/0.json', 'bad.json')
-    it.checked('a bad list', got == (2, '', read(both, '1 role, 0 bindings, 1 other object') + 'rbacaudit: file 1: M1 not JSON\n'
+    it.checked('a bad list', got == (2, '', read(both, '1 role, 0 bindings, 1 other object') + OWN + 'rbacaudit: file 1: M1 not JSON\n'
                                      'kubectl-rbacaudit: file 1 is %s as kubectl reads it\n' % both), got)
     put(it, {'pod.json': POD})
     got = without_cluster(it, 'lint', 'pod.json')

@@ -109,6 +109,7 @@ CAUTION = 'kubectl-rbacaudit: a part of the export is missing: this answer knows
 UNLISTED = "kubectl-rbacaudit: the API resource lists of the export don't have the %s: check the spelling\n"
 NO_VERB = "kubectl-rbacaudit: the API resource lists of the export don't have the verb %s of %s, but %s: check the spelling\n"
 SCOPED = "kubectl-rbacaudit: the type %s is cluster-scoped, so -n doesn't count: the question is about the whole cluster%s\n"
+OWN = "kubectl-rbacaudit: Kubernetes' own roles and bindings count too; --no-defaults leaves them out\n"
 MOUNTS = ('kubectl-rbacaudit: whoever may create pods in a namespace can read its %s too, by mounting them: kubectl rbacaudit who-can %screate pods '
           'lists them\n')
 URL_SCOPED = "kubectl-rbacaudit: a URL has no namespace, so -n doesn't count\n"

@@ -13,7 +13,7 @@ from common import TOP, V1, skipped
 from local_kubectl import yaml
 from plugin_changes import a_list, read
 from plugin_manifests import ALONE, bound, put, role, with_manifests, without_cluster
-from plugin_room import PLUGIN, SHELLS, example, in_each_shell, of_kinds, room
+from plugin_room import OWN, PLUGIN, SHELLS, example, in_each_shell, of_kinds, room
 
 RUN = {'lint': ['L1', 'L2', 'L3', 'L4', 'L5', 'L6', 'L7'], 'diff': ['gained-permission', 'lost-permission']}
 
@@ -74,7 +74,7 @@ def examples(it):
     """The files of examples/: findings, none, and changes."""
     shutil.copytree(os.path.join(TOP, 'examples'), it.work, dirs_exist_ok=True)
     got = without_cluster(it, 'lint', '-o', 'sarif', 'lint.json')
-    same(it, 'lint.json', seen(results_of(it, 'lint.json', got, 1, read('lint.json', '6 roles, 6 bindings, 0 other objects') + ALONE)), FINDINGS)
+    same(it, 'lint.json', seen(results_of(it, 'lint.json', got, 1, read('lint.json', '6 roles, 6 bindings, 0 other objects') + OWN + ALONE)), FINDINGS)
     run = sarif.read(got[1])[0]
     driver = run['tool']['driver']
     same(it, 'lint: the tool', (driver['name'], driver['semanticVersion'], [rule['id'] for rule in driver['rules']], run['automationDetails'],
@@ -168,7 +168,8 @@ def files(it):
         got = without_cluster(it, 'lint', '-o', 'sarif', given, stdin=None, input=text)
         same(it, 'no file: %s' % given, seen(results_of(it, given, got, 1)), [('L2', 'note', 'No binding uses Role/a/r.', None, 'Role/a/r')])
     got = without_cluster(it, 'diff', '--from', '-', '--to', 'm/in', '-o', 'sarif', stdin=None, input=json.dumps(bound('r', 'a', 'ann')).encode())
-    same(it, 'neither side grants anything', results_of(it, 'a side without a file', got, 0), [])
+    same(it, 'a side without a file', seen(results_of(it, 'a side without a file', got, 1)), [
+        ('gained-permission', 'warning', 'Whoever has Role/a/r gains 1 permission in the namespace a: get pods.', 'm/in/r.json:1', 'Role/a/r')])
 
 
 # Roles as people write them, and at which line each has its name: a comment, quotes, another order, one line, a list, another namespace.
@@ -364,7 +365,8 @@ def fingerprints(it):
     put(it, {'old/r.json': role('none', 'a'), 'get/r.json': a_list('List', 'v1', role('r', 'a'), bound('r', 'a', 'ann')),
              'all/r.json': a_list('List', 'v1', role('r', 'a', 'get', 'list'), bound('r', 'a', 'ann'), bound('q', 'a', 'bob', 'Role', 'r'))})
     one, two = (prints(results_of(it, side, without_cluster(it, 'diff', '--from', 'old', '--to', side, '-o', 'sarif'), 1)) for side in ('get', 'all'))
-    it.checked('of changes', len(one) == 1 and one < two and len(two) == 2, (one, two))
+    # (whoever has the role that goes is one of them)
+    it.checked('of changes', len(one) == 2 and one < two and len(two) == 3, (one, two))
 
 
 MOST = 25000

@@ -58,6 +58,14 @@ def written():
         same('no findings and no changes', (data['findings'], data['changes']['count']), ([], 0))
         data = Parts(made(SMALL, '--named', none)[1]).data()
         same('no holders by name', data['named']['count'], 0)
+    holders = [CHANGES[0].replace('u:ann', who).replace('RoleBinding/dev/ann', '-') for who in ('r:Role/dev/ops', 'r:ClusterRole/a b')]
+    with file_of(holders) as diff:
+        same('changes for whoever has a role', lines_in(Parts(made(SMALL, '--diff', diff)[1]).data()['changes']), holders)
+    for bad in (holders[0].replace('\t-\t', '\t\t', 1), holders[0][:-1] + 'RoleBinding/dev/ann', holders[0].replace('Role/dev/ops', 'ops'),
+                CHANGES[0].replace('RoleBinding/dev/ann', '-')):
+        with file_of([bad]) as diff:
+            same('refused: changes for whoever has a role: %s' % bad, made(SMALL, '--diff', diff),
+                 (2, '', 'rbacaudit-page: %s line 1: no line of changes\n' % diff))
     with file_of(NAMED) as named:
         same('holders by name', lines_in(Parts(made(SMALL, '--named', named)[1]).data()['named']),
              NAMED)

@@ -363,7 +363,8 @@ def man_paragraphs(text, program, commands):
 OF_PLUGIN = {
     '.SS "Of each question, of diff, universe and page"': plugin.OWN,
     '.SS "Of each question and of diff"': plugin.SHOWN,
-    '.SS "Of diff"': [it for it in plugin.OF_DIFF if it.long != '--namespace'],
+    '.SS "Of diff"': [it for it in plugin.OF_DIFF if it.long != '--namespace' and it != plugin.BARE],
+    '.SS "Of diff and lint"': [plugin.BARE],
     '.SS "Of diff and read"': plugin.OF_READ,
     r'.SS "Of export, beside \-\-context, \-\-kubeconfig and \-\-request\-timeout"': [it for it in plugin.OF_EXPORT if it not in plugin.TARGETS],
     '.SS "Of page"': plugin.OF_PAGE,

@@ -187,7 +187,8 @@ def answer(asking: Asking) -> int:
         text = done.out
         if form == 'sarif' and done.status <= 1:
             from .sarif import of_lint
-            text = of_lint(asking, text)
+            from .stale import rows_of
+            text = of_lint(asking, rows_of(text))
         status = show_text(asking, text, find_rules(asking, done) if has_words and not done.status else None) or done.status
     else:
         status = list_rows(asking, line, files) if question.command == 'matrix' else ask_shown(asking, line, files)

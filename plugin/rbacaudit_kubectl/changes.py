@@ -6,7 +6,7 @@ from .answer import Asking, ask, ask_shown, show_text
 from .errors import Refused
 from .export import open_export
 from .help import help_of
-from .manifests import Manifests, check_inputs, check_namespace, is_of_rbac, key_of_item, name_path, need_held, take_manifests
+from .manifests import Item, Manifests, check_inputs, check_namespace, is_of_rbac, key_of_item, name_path, need_held, take_manifests
 from .options import Options, choose_format, read_options
 from .processes import Session
 from .question import Question, check_cluster
@@ -30,7 +30,10 @@ def diff_command(session: Session, words: list[str]) -> int:
     is_change = bool(options.without or options.with_)
     check_cluster(session, options, is_alone, reads=len(options.exports) < (1 if is_change else 2))
     asking = Asking(session, options, Question('diff'))
-    return compare_states(asking) if is_alone else compare_change(asking) if is_change else compare_exports(asking)
+    if is_alone:
+        from .states import compare_states
+        return compare_states(asking)
+    return compare_change(asking) if is_change else compare_exports(asking)
 
 
 def check_sides(options: Options) -> None:
@@ -44,6 +47,7 @@ def check_sides(options: Options) -> None:
             ('--from and --to go together: the manifests before the change, and those after it', bool(options.before) != bool(options.after)),
             ('--from and --to are the whole change: give neither --with nor --without beside them', options.before and len(paths) > 2),
             ('diff compares two exports, or one with a change: --with goes with one --export', len(options.exports) > 1 and paths),
+            ('--no-defaults is for manifests alone: an export has the roles that Kubernetes makes', options.bare and (options.exports or not options.before)),
             ("-n is the namespace of a change's objects that have none, so it needs --with PATH, --without PATH, or --from PATH and "
              '--to PATH', options.namespace and not paths)):
         if is_so:
@@ -52,28 +56,12 @@ def check_sides(options: Options) -> None:
     check_namespace(options.namespace)
 
 
-# ---- two states of manifests
-
 def take_side(asking: Asking, name: str, path: str) -> Manifests:
     """Reads the manifests of a side."""
     found = take_manifests(asking.session, name, [path], asking.options.namespace)
     look_for_universe(asking.session, found.file, found.named, idle=True)
     asking.manifests[found.file] = found
     return found
-
-
-def compare_states(asking: Asking) -> int:
-    """Compares manifests, without an export and without a cluster."""
-    sides = [take_side(asking, 'from', asking.options.before), take_side(asking, 'to', asking.options.after)]
-    need_held('compared', *sides)
-    # (with the other state's roles too, lint still misses those that neither has)
-    both = [side.file for side in sides]
-    found = (asking.session.capture(['rbacaudit', 'lint', '--only=L1', *both, last]) for last in both)
-    missing = first_three(row[4] for done in found for row in rows_of(done.out))
-    if missing:
-        asking.session.report('neither side has these roles, so bindings to them grant nothing here: %s; --export DIR compares with '
-                              'the roles of a cluster' % missing)
-    return compare(asking, ['--before', both[0], '--after', both[1]], *sides)
 
 
 # ---- exports
@@ -143,14 +131,18 @@ def compare(asking: Asking, words: list[str], old: Manifests | None = None, new:
     if not options.summary and not options.fail_on and options.format != 'sarif':
         return ask_shown(asking, line, files)
     done = ask(asking, line, files)
-    if done.status > 1:
-        return done.status
-    rows, text, status = rows_of(done.out), done.out, done.status
+    return show_rows(asking, rows_of(done.out), old, new) if done.status < 2 else done.status
+
+
+def show_rows(asking: Asking, rows: list[list[str]], old: Manifests | None, new: Manifests | None, own: list[Item] | None = None) -> int:
+    """Shows the lines of an answer; the status. Kubernetes' own objects count beside manifests alone."""
+    options, status = asking.options, int(bool(rows))
+    text = ''.join('\t'.join(row) + '\n' for row in rows)
     if options.summary or options.fail_on:
         from .summary import summarize
         summary, total = summarize(rows)
         text, status = summary if options.summary else text, total.status(options.fail_on)
     if options.format == 'sarif':
         from .sarif import of_diff
-        text = of_diff(asking, old, new, rows)
+        text = of_diff(asking, old, new, rows, own or [])
     return show_text(asking, text) or status

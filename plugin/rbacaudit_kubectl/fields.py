@@ -112,6 +112,22 @@ def powers_of(command: str, cells: Sequence[str]) -> tuple[str, ...]:
     return ()
 
 
+# ---- whoever has a role, and what an aggregated role gathers elsewhere: of diff of manifests alone
+
+WHAT, ELSEWHERE = 'what', 'gathers elsewhere'   # the verb and the name in a line about that; its resource is the role
+DIFFS = {'diff': 7, 'diff --summary': 2}        # where the binding stands
+
+
+def is_gathered(cells: Sequence[str]) -> bool:
+    """Whether a line of diff is about what an aggregated role gathers elsewhere."""
+    return (cells[3], cells[6]) == (WHAT, ELSEWHERE)
+
+
+def is_bound(who: str, binding: str) -> bool:
+    """Whether somebody has a binding, or needs none: whoever has a role has it by one elsewhere."""
+    return (binding == '-') == (who == 'total' or who.startswith('r:'))
+
+
 # ---- the lines of each command
 
 # (written so that no text is read twice: what follows a field is a tab or the end of the line)
@@ -125,7 +141,7 @@ NUMBER = '[1-9][0-9]{0,17}'
 STEP = '(?:%s)' % '|'.join(STEP_NAMES)
 # What a field of each kind looks like. Fields of `any` may be *, which is no name then.
 KINDS = {
-    'text': FIELD, 'any': FIELD, 'detail': FIELD, 'who': PRINCIPAL, 'whose': '(?:%s|total)' % PRINCIPAL, 'binding': BINDING, 'role': ROLE,
+    'text': FIELD, 'any': FIELD, 'detail': FIELD, 'who': PRINCIPAL, 'holder': '(?:%s|r:%s)' % (PRINCIPAL, ROLE), 'whose': '(?:%s|r:%s|total)' % (PRINCIPAL, ROLE), 'binding': BINDING, 'role': ROLE,
     'node': r'(?:%s|\*|%s)' % (PRINCIPAL, ROLE), 'next': r'(?:%s|[-*]|%s)' % (PRINCIPAL, ROLE), 'bound': '(?:-|%s)' % BINDING, 'held': '(?:-|%s)' % ROLE,
     'number': NUMBER, 'count': '(?:0|%s)' % NUMBER, 'place': '(?:-|%s)' % NUMBER, 'list': r'\[(?:%s(?:,%s)*)?\]' % (_WORD, _WORD),
     'code': 'L[1-9][0-9]*', 'sign': '[-+]', 'step': STEP, 'by': '(?:-|%s)' % STEP}
@@ -146,6 +162,8 @@ class Shape:
     def cells_of(self, line: str) -> list[str]:
         """The fields of a line, or none if it isn't one of these."""
         cells = line.split('\t') if self.pattern.fullmatch(line) else []
+        if self.command in DIFFS and cells:
+            return cells if is_bound(cells[self.about], cells[DIFFS[self.command]]) else []
         return [] if len(cells) == 11 and not tells_step(cells, self.command == 'paths') else cells
 
 
@@ -156,7 +174,7 @@ def _shape(command: str, about: int, fields: str) -> Shape:
 
 _GRANT = 'BINDING:binding ROLE:role SOURCE:role RULE:number SUBJECT:number'
 _HELD = 'BINDING:bound ROLE:held SOURCE:held RULE:place SUBJECT:place'
-_ROW = 'WHO:who NAMESPACE%s VERB GROUP RESOURCE NAME%s BINDING:binding'
+_ROW = 'WHO:%s NAMESPACE%s VERB GROUP RESOURCE NAME%s BINDING:%s'
 _FINDING = 'CODE:code NAME OBJECT PLACE:place DETAIL:detail'
 # (HEAD, HEAD:KIND or HEAD:KIND:KEY)
 SHAPES = (
@@ -164,13 +182,13 @@ SHAPES = (
     _shape('who-can', 0, 'WHO:who BINDING:binding'),
     _shape('who-can', 0, 'WHO:who ' + _GRANT),
     _shape('rules', 0, _GRANT + ' VERBS:list GROUPS:list:api_groups RESOURCES:list NAMES:list:resource_names URLS:list:non_resource_urls'),
-    _shape('matrix', 0, _ROW % ('', '')),
+    _shape('matrix', 0, _ROW % ('who', '', '', 'binding')),
     _shape('lint', 2, _FINDING),
     _shape('lint', 2, _FINDING + ' FILE'),
     _shape('powers', 1, 'STEP:step WHO:who WHERE:any ' + _GRANT),
     _shape('paths', 1, 'STEPS:number TO:node:who WHERE:any FROM:node WHERE:any:from_where STEP:step ' + _HELD),
     _shape('who-can --indirect', 1, 'STEPS:count WHO:node WHERE:any TO:next WHERE:any:to_where STEP:by ' + _HELD),
-    _shape('diff', 1, 'CHANGE:sign ' + _ROW % (':any', ':any')),
+    _shape('diff', 1, 'CHANGE:sign ' + _ROW % ('holder', ':any', ':any', 'bound')),
     _shape('diff --summary', 0, 'WHO:whose NAMESPACE:any BINDING:bound GAINED:count LOST:count POWERS_GAINED:list POWERS_LOST:list'))
 # A row has its shape and its fields. What is no row, such as the last line of a matrix, has this shape and itself.
 Row = tuple[Shape, list[str]]

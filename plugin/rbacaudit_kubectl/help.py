@@ -18,9 +18,10 @@ Without --export, each question reads the cluster anew. For several questions, a
   kubectl rbacaudit matrix --export prod universe.json
 
 PATH is a file or folder with manifests, a folder with a kustomization, or - for standard input. lint PATH reads no
-cluster. Without -n or -A, can-i and who-can ask about the namespace of the context, or of the context that the export
-was made with; rules lists the rules of all bindings. If -n doesn't count because a type is cluster-scoped, the plugin
-says so. For bind of cluster roles, and for use, it asks in the namespace, as a server does.
+cluster; it knows Kubernetes' own roles without --no-defaults. Without -n or -A, can-i and who-can ask about the
+namespace of the context, or of the context that the export was made with; rules lists the rules of all bindings. If -n
+doesn't count because a type is cluster-scoped, the plugin says so. For bind of cluster roles, and for use, it asks in
+the namespace, as a server does.
 
 FILEs are read before the files of the export: if both have an object, the export's counts. The exit status is
 rbacaudit's: 2 is an error. If a part that the command reads is missing, nothing is answered and the status is 2, unless
@@ -78,6 +79,10 @@ List what a change lets users do, and what it takes from them.
 PATH is a file, a folder (.json, .yaml and .yml, folders within), a folder with a kustomization, or - for standard
 input. kubectl reads it, without a cluster (kubectl rbacaudit read --help). Standard error says how many roles and
 bindings were read. Without --without, objects that the change deletes still count.
+
+With --from and --to alone, the roles and bindings that Kubernetes itself makes count on both sides. r:ROLE in the place of
+WHO is whoever has this role elsewhere in the cluster, and "what ROLE gathers elsewhere" is what an aggregated role selects
+there. If nobody knows the role of a binding that changes, nothing is answered; --partial leaves such bindings out.
 
 A line begins with + for a permission that is gained, or with - for one that is lost; rbacaudit diff --help lists the
 fields. All requests of all users are compared, whether an export names them or not. The other options (--partial, -o,

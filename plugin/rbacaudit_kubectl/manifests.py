@@ -32,10 +32,11 @@ HAS_ONE, MAY_HAVE_MORE = re.compile(r'^kind:', re.M), re.compile(r'---|items|[\\
 
 @dataclass
 class Manifests:
-    """What was read from some paths: the items of its List with the file of each, and the file of the List."""
+    """What was read from some paths: the items of its List with the text and the file of each, and the file of the List."""
     paths: list[str]
     items: list[Item] = field(default_factory=list)
     origins: list[str] = field(default_factory=list)
+    texts: list[str] = field(default_factory=list)
     file: str = ''
 
     @property
@@ -210,7 +211,7 @@ def objects_in(printed: str) -> Iterator[tuple[str, Item]]:
 
 def take_manifests(session: Session, name: str, paths: list[str], namespace: str = '', offers: bool = True) -> Manifests:
     """Reads manifests into a list of this name, says what it has, and puts what has no namespace into this one."""
-    found, texts, bare = Manifests(paths), [], []
+    found, bare = Manifests(paths), []
     for origin, text, item in read_objects(session, paths):
         check_item(item, origin)
         if text_in(item, 'kind') in NAMESPACED and is_held(item) and not text_in(item, 'metadata', 'namespace'):
@@ -218,12 +219,12 @@ def take_manifests(session: Session, name: str, paths: list[str], namespace: str
             if namespace:
                 item['metadata'] = {**(item.get('metadata') or {}), 'namespace': namespace}
                 text = json.dumps(item, indent=4, ensure_ascii=False)
-        texts.append(text)
+        found.texts.append(text)
         found.items.append(item)
         found.origins.append(origin)
     kinds = [item['kind'] for item in found.items if is_of_rbac(item)]
     roles = sum(kind in ROLES for kind in kinds)
-    counts = (roles, 'role'), (len(kinds) - roles, 'binding'), (len(texts) - len(kinds), 'other object')
+    counts = (roles, 'role'), (len(kinds) - roles, 'binding'), (len(found.texts) - len(kinds), 'other object')
     session.report('read from %s: %s' % (found.named, ', '.join('%d %s%s' % (many, of, 's'[many == 1:]) for many, of in counts)))
     if bare:
         first = ', '.join(bare[:3]) + (' and %d more' % (len(bare) - 3) if len(bare) > 3 else '')
@@ -231,9 +232,13 @@ def take_manifests(session: Session, name: str, paths: list[str], namespace: str
         session.report('these have no namespace, and count in %s: %s%s' % (namespace or 'default', first, offer))
     elif namespace:
         session.report('no object of %s lacks a namespace, so -n %s changes nothing' % (found.named, namespace))
-    whole = '{"apiVersion":"v1","kind":"List","items":[\n%s\n]}\n' % '\n,\n'.join(texts)
-    found.file = session.write('manifests-%s.json' % name, whole)
+    found.file = session.write('manifests-%s.json' % name, list_text(found.texts))
     return found
+
+
+def list_text(texts: list[str]) -> str:
+    """A List of items."""
+    return '{"apiVersion":"v1","kind":"List","items":[\n%s\n]}\n' % '\n,\n'.join(texts)
 
 
 def check_item(item: Item, origin: str) -> None:

@@ -35,6 +35,7 @@ OWN = (Option('--export', 'DIR', 'exports', 'answer from the export in DIR, with
 SHOWN = (Option('-o,--output', 'FORMAT', 'format', 'table (on a terminal), wide, json, name, tsv: plain lines (elsewhere); lint, diff: sarif'),
          Option('--no-headers', '', 'headless', 'a table without its head'),
          Option('--color', 'WHEN', 'color', 'with colors: auto, always or never (rbacaudit-show --help)'))
+BARE = Option('--no-defaults', '', 'bare', "with manifests alone, leave out the roles and bindings that Kubernetes itself makes")
 OF_DIFF = (
     Option('--with', 'PATH', 'with_', 'manifests whose objects are added to the export, or replace its objects'),
     Option('--without', 'PATH', 'without', 'manifests whose objects are first removed from the export, by kind, namespace and name'),
@@ -43,7 +44,7 @@ OF_DIFF = (
     Option('-n,--namespace', 'NS', 'namespace', 'the namespace for roles and bindings of manifests that have none (default: default)'),
     Option('--summary', '', 'summary', 'counts instead of lines: the permissions gained and lost for each who, where and binding, the powers '
            'among them, which are ways to take over somebody else, and a total'),
-    Option('--fail-on', 'WHAT', 'fail_on', 'end with status 1 for changes (default), only for gains, or only for powers that are gained'))
+    Option('--fail-on', 'WHAT', 'fail_on', 'end with status 1 for changes (default), only for gains, or only for powers that are gained'), BARE)
 OF_READ = (Option('-n,--namespace', 'NS', 'namespace', 'put the roles and bindings that have no namespace into NS'),)
 OF_PAGE = (
     Option('-n,--namespace', 'NS', 'namespace', 'the page of one namespace: its rows, and those of the whole cluster'),
@@ -87,7 +88,8 @@ COMMANDS: dict[str, Command] = {
     'matrix': Command('[FILE]..', 'everything that anyone may do', 'FILE', '--every --once --after --limit'),
     'powers': Command('[FILE]..', 'who can act as others or gain permissions', 'FILE'),
     'paths': Command('WHO', 'whom and what u:NAME or g:NAME can take over, step by step', 'WHO FILE', '--groups --group --steps'),
-    'lint': Command('[PATH]..', 'what looks wrong with roles and bindings: status 1 if any', 'FILE', '--only --skip-system'),
+    'lint': Command('[PATH]..', 'what looks wrong with roles and bindings: status 1 if any', 'FILE', '--only --skip-system',
+                    OWN + SHOWN + (BARE,)),
     'diff': Command('--export OLD --export NEW', 'permissions gained and lost: status 1 if any (diff --help)', own=OF_DIFF + OWN + SHOWN),
     'read': Command('PATH..', 'manifests as JSON, for rbacaudit (read --help)', 'FILE', own=OF_READ),
     'universe': Command('', 'a Universe document to start from, for matrix', own=OWN),
@@ -105,7 +107,7 @@ class Options:
         self.command, self.paths, self.exports, self.as_groups = command, list[str](), list[str](), list[str]()
         self.context = self.kubeconfig = self.timeout = self.namespace = self.as_user = self.title = self.diff = self.output = ''
         self.format = self.color = self.fail_on = self.with_ = self.without = self.before = self.after = ''
-        self.partial = self.force = self.every = self.headless = self.summary = self.help = False
+        self.partial = self.force = self.every = self.headless = self.summary = self.bare = self.help = False
         self.awaits = ''    # the last word, if it is an option that needs a value
 
     @property

@@ -154,6 +154,8 @@ def question_command(session: Session, command: str, words: list[str]) -> int:
     # (lint of manifests reads neither a cluster nor an export)
     alone = command == 'lint' and not options.export and bool(question.files)
     check_cluster(session, options, alone)
+    if options.bare and not alone:
+        raise Refused('--no-defaults is for manifests alone: an export has the roles that Kubernetes makes')
     accept_words(session, question)
     from .answer import Asking, answer_question
     if alone:

@@ -12,13 +12,14 @@ from . import VERSION
 from .answer import Asking
 from .documents import read_document
 from .escapes import escaped
+from .fields import is_gathered
 from .manifests import Item, Manifests, is_held, key_of_item, role_of
 from .places import address_of, home_folder, line_of, source_of
-from .stale import rows_of
 
 Part = Dict[str, Any]   # of the SARIF
 MOST = 25000    # GitHub refuses a file with more results
 FEW = 10        # how many permissions a message lists
+WHO = {'u': 'The user ', 'g': 'The group ', 'r': 'Whoever has '}
 SCHEMA = 'https://docs.oasis-open.org/sarif/sarif/v2.1.0/os/schemas/sarif-schema-2.1.0.json'
 
 
@@ -69,11 +70,11 @@ DIFF = (
     Rule('gained-permission', 'gained-permission', 'warning', 'A user or a group gains a permission',
          'After the change, a user or the members of a group can do something that they could not do before.',
          'Check that they need the permission. If not, remove it from the role, or remove them from the binding.',
-         '{who} gains {permissions}{where}, granted by {binding}: {listed}.'),
+         '{who} gains {permissions}{where}{by}: {listed}.'),
     Rule('lost-permission', 'lost-permission', 'note', 'A user or a group loses a permission',
          'After the change, a user or the members of a group can no longer do something that they could do before.',
          'Check that they no longer need the permission.',
-         '{who} loses {permissions}{where}, granted before by {binding}: {listed}.'))
+         '{who} loses {permissions}{where}{by}: {listed}.'))
 
 
 class Side:
@@ -92,7 +93,7 @@ class Side:
 
     def role(self, binding: str) -> str:
         """The role that a binding refers to."""
-        return role_of(self.objects[binding][0]) if binding in self.objects else ''
+        return role_of(self.objects[binding][0]) if binding in self.objects and 'Binding/' in binding else ''
 
     def has_in_file(self, binding: str) -> bool:
         """Whether a binding or its role stands in a file."""
@@ -148,7 +149,7 @@ def shown(name: str) -> str:
     return '"%s"' % name.replace('"', '\\x22') if ' ' in name else name
 
 
-def of_lint(asking: Asking, findings: str) -> str:
+def of_lint(asking: Asking, findings: list[list[str]]) -> str:
     """The findings of lint as SARIF."""
     side, numbers = Side([], *asking.manifests.values()), {rule.id: at for at, rule in enumerate(LINT)}
 
@@ -158,15 +159,15 @@ def of_lint(asking: Asking, findings: str) -> str:
         mark = [about] if code == 'L7' else [about, place, detail]
         return result_of(LINT, numbers[code], fields, mark, side.location(about))
 
-    return log_of(asking, LINT, (finding_of(*row) for row in rows_of(findings)))
+    return log_of(asking, LINT, (finding_of(*row) for row in findings))
 
 
 # ---- changes
 
-def of_diff(asking: Asking, old: Manifests | None, new: Manifests | None, rows: list[list[str]]) -> str:
-    """The changes of diff as SARIF."""
+def of_diff(asking: Asking, old: Manifests | None, new: Manifests | None, rows: list[list[str]], own: list[Item]) -> str:
+    """The changes of diff as SARIF. `own` are objects beside manifests alone."""
     files = asking.files('cluster.json', 'namespaced.json') if old or new else []
-    exported = [item for path in files for item in read_document(path)['items']]
+    exported = [*own, *(item for path in files for item in read_document(path)['items'])]
     sides = [Side(exported, *([manifests] if manifests else [])) for manifests in (old, new)]
     return log_of(asking, DIFF, changes_of(sides, rows))
 
@@ -181,26 +182,31 @@ def changes_of(sides: list[Side], rows: list[list[str]]) -> Iterator[Part]:
                 by_binding.setdefault(row[7], []).append(row)
             for binding, some in by_binding.items():
                 listed = ', '.join(map(permission_of, some[:FEW])) + (' and %d more' % (len(some) - FEW) if len(some) > FEW else '')
-                fields = {'who': ('The user ' if who.startswith('u') else 'The group ') + shown(who[2:]),
-                          'permissions': '%d permission%s' % (len(some), 's'[len(some) == 1:]),
+                fields = {'who': WHO[who[0]] + shown(who[2:]), 'permissions': '%d permission%s' % (len(some), 's'[len(some) == 1:]),
                           'where': {'-': '', '*': ' in all namespaces'}.get(where, ' in the namespace ' + shown(where)),
-                          'binding': shown(binding), 'listed': listed}
-                yield result_of(DIFF, at, fields, [who, where, binding], *locations_of(sides, 1 - at, binding))
+                          'by': '' if binding == '-' else ', granted%s by %s' % (' before' * at, shown(binding)), 'listed': listed}
+                yield result_of(DIFF, at, fields, [who, where, binding], *locations_of(sides, 1 - at, who, binding))
 
 
 def permission_of(row: list[str]) -> str:
     """The permission of a line of diff."""
     where, verb, group, resource, name = row[2:7]
+    if is_gathered(row):
+        return ' '.join((verb, shown(resource), name))
     text = '%s %s' % (shown(verb), shown(resource))
     if where != '-':
         text += ('' if group == '-' else '.' + shown(group)) + ('' if name == '*' else ' named ' + shown(name))
     return text
 
 
-def locations_of(sides: list[Side], at: int, binding: str) -> tuple[Part, Part | None]:
+def locations_of(sides: list[Side], at: int, who: str, binding: str) -> tuple[Part, Part | None]:
     """Where a change is shown, and what stands beside it: a binding and its role. The role comes first if the binding is the same
-    on both sides and the role isn't, or if only the role is in a file. Both are of this side, unless only the other has files."""
-    side = sides[at] if sides[at].has_in_file(binding) or not sides[1 - at].has_in_file(binding) else sides[1 - at]
+    on both sides and the role isn't, or if only the role is in a file; of whoever has a role, it is alone. All are of this side, unless only
+    the other has files."""
+    key = who[2:] if binding == '-' else binding
+    side = sides[at] if sides[at].has_in_file(key) or not sides[1 - at].has_in_file(key) else sides[1 - at]
+    if binding == '-':
+        return side.location(key), None
     role = side.role(binding)
     if not side.source(role):
         return side.location(binding), None

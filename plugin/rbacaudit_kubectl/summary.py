@@ -3,7 +3,7 @@
 from __future__ import annotations
 
 from .escapes import bytes_of
-from .fields import STEP_NAMES, powers_of
+from .fields import STEP_NAMES, is_gathered, powers_of
 
 
 class Tally:
@@ -12,11 +12,13 @@ class Tally:
     def __init__(self) -> None:
         self.counts = {'+': 0, '-': 0}
         self.powers: dict[str, set[str]] = {'+': set(), '-': set()}
+        self.may_be_powers = 0      # how often somebody gains what a role gathers elsewhere
 
     def take(self, cells: list[str]) -> None:
         """Counts a line of diff."""
         self.counts[cells[0]] += 1
         self.powers[cells[0]].update(powers_of('diff', cells))
+        self.may_be_powers += cells[0] == '+' and is_gathered(cells)
 
     def line(self, *about: str) -> str:
         """The line with all of it."""
@@ -25,7 +27,7 @@ class Tally:
 
     def status(self, fails_on: str) -> int:
         """The status by the word after --fail-on."""
-        counted = {'gains': self.counts['+'], 'powers': len(self.powers['+'])}
+        counted = {'gains': self.counts['+'], 'powers': len(self.powers['+']) + self.may_be_powers}
         return int(counted.get(fails_on, sum(self.counts.values())) > 0)
 
 

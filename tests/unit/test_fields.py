@@ -29,12 +29,15 @@ class Lines(unittest.TestCase):
     def test_each_command(self):
         for line, command in (('RoleBinding/a/b\tRole/a/r\tRole/a/r\t3\t1', 'can-i'), ('u:a\tClusterRoleBinding/b', 'who-can'), ('u:a\t' + GRANT, 'who-can'),
                               ('L2\tx\tRole/a/b\t-\t-', 'lint'), ('exec\tu:a\t*\t' + GRANT, 'powers'), ('total\t-\t-\t0\t0\t[]\t[]', 'diff --summary'),
-                              ('+\tu:a\t*\tget\t-\tpods\t*\tClusterRoleBinding/b', 'diff'), (GRANT + '\t[get]\t[-]\t[pods]\t[]\t[]', 'rules'),
+                              ('+\tu:a\t*\tget\t-\tpods\t*\tClusterRoleBinding/b', 'diff'), ('-\tr:Role/a/b\ta\tget\t-\tpods\t*\t-', 'diff'),
+                              ('r:ClusterRole/a b\t*\t-\t1\t0\t[]\t[]', 'diff --summary'), (GRANT + '\t[get]\t[-]\t[pods]\t[]\t[]', 'rules'),
                               ('u:a\t-\tget\t-\tpods\t-\tClusterRoleBinding/b', 'matrix'), ('1\t*\t*\tu:a\t-\tbind\t' + GRANT, 'paths')):
             self.assertEqual(self.commands_of(line), [command])
 
     def test_none(self):
         for line in ('', 'yes', 'u:\tClusterRoleBinding/b', 'u:a\tRoleBinding/b', 'u:a\\\tClusterRoleBinding/b', 'u:a\tClusterRoleBinding/b\r', GRANT + '\t[get,]\t[]\t[]\t[]\t[]',
+                     '-\tr:Role/a/b\ta\tget\t-\tpods\t*\tRoleBinding/a/b', '+\tu:a\t*\tget\t-\tpods\t*\t-', '+\tr:a\t*\tget\t-\tpods\t*\t-',
+                     'u:a\t*\t-\t1\t0\t[]\t[]', 'r:ClusterRole/a\t*\tClusterRoleBinding/b\t1\t0\t[]\t[]', 'total\t-\tClusterRoleBinding/b\t1\t0\t[]\t[]',
                      GRANT + '\t[,]\t[]\t[]\t[]\t[]', '01\t*\t*\tu:a\t-\tbind\t' + GRANT, '1\t*\t*\tu:a\t-\tsecrets\t' + GRANT):
             self.assertEqual(self.commands_of(line), [])
 

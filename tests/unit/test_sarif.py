@@ -28,18 +28,19 @@ class Texts(unittest.TestCase):
 
     def test_permissions(self):
         for row, text in ((['+', 'u:a', '-', 'get', '-', '/x', '-', 'b'], 'get /x'), (['+', 'u:a', 'n', 'get', 'apps', 'deployments', '*', 'b'], 'get deployments.apps'),
-                          (['+', 'u:a', '*', 'get', '-', 'pods', 'p', 'b'], 'get pods named p')):
+                          (['+', 'u:a', '*', 'get', '-', 'pods', 'p', 'b'], 'get pods named p'),
+                          (['+', 'u:a', '*', 'what', '-', 'ClusterRole/r', 'gathers elsewhere', 'b'], 'what ClusterRole/r gathers elsewhere')):
             self.assertEqual(sarif.permission_of(row), text)
 
     def test_rules(self):
-        fields = {name: '{x}' for name in ('object', 'place', 'detail', 'does', 'times', 'who', 'permissions', 'where', 'binding', 'listed')}
+        fields = {name: '{x}' for name in ('object', 'place', 'detail', 'does', 'times', 'who', 'permissions', 'where', 'by', 'listed')}
         for rule in sarif.LINT + sarif.DIFF:
             self.assertRegex(rule.message.format_map(fields), r'\{x\}.*\.$')
 
 
 class Places(unittest.TestCase):
-    def shown(self, old, new):
-        return [named(location) for location in sarif.locations_of([old, new], 1, 'ClusterRoleBinding/b')]
+    def shown(self, old, new, who='u:a', binding='ClusterRoleBinding/b'):
+        return [named(location) for location in sarif.locations_of([old, new], 1, who, binding)]
 
     def test_where_a_change_is_shown(self):
         role, binding = ('ClusterRole/r', True), ('ClusterRoleBinding/b', True)
@@ -50,3 +51,7 @@ class Places(unittest.TestCase):
         self.assertEqual(self.shown(side(), side([BINDING], role=FILE)), [role, ('ClusterRoleBinding/b', False)])
         self.assertEqual(self.shown(side(), side([ROLE], binding=FILE)), [binding, (None, False)])
         self.assertEqual(self.shown(side(), side([ROLE, BINDING])), [('ClusterRoleBinding/b', False), (None, False)])
+
+    def test_where_a_change_for_whoever_has_a_role_is_shown(self):
+        for sides, is_in_file in (((side(), side(role=FILE)), True), ((side(role=FILE), side()), True), ((side(), side([ROLE])), False), ((side(), side(binding=FILE)), False)):
+            self.assertEqual(self.shown(*sides, 'r:ClusterRole/r', '-'), [('ClusterRole/r', is_in_file), (None, False)])
