@@ -3,7 +3,8 @@
 plugin_room.py has the stand-in, plugin_exports.py the exports, plugin_questions.py the questions, plugin_paths.py those of paths,
 plugin_remarks.py what is said beside answers, plugin_changes.py and plugin_manifests.py changes and manifests, plugin_advice.py what is said behind errors,
 plugin_server.py both once more with kubectl itself, plugin_terminal.py what a terminal shows, plugin_show.py formats and summaries,
-plugin_sarif.py what code hosts get, plugin_states.py what manifests alone don't know of a cluster, and plugin_law.py the law of that.
+plugin_sarif.py what code hosts get, plugin_states.py what manifests alone don't know of a cluster, plugin_law.py the law of that,
+and plugin_applied.py what kubectl would do and the files don't say.
 Here are the tools that the plugin needs, its texts, completions and man page, and make. What is
 skipped, since this machine lacks a tool, stands in the last line but one. The last line is
 `N passed, M failed`.
@@ -18,6 +19,7 @@ import sys
 import tempfile
 
 import plugin_advice
+import plugin_applied
 import plugin_changes
 import plugin_exports
 import plugin_law
@@ -120,7 +122,7 @@ OF_PAGE = {('-n', '--namespace'): 'NS', ('--output',): 'FILE', ('--title',): 'TE
            ('--diff',): 'FILE', ('--every',): ''}
 OF_READ = {('-n', '--namespace'): 'NS'}
 BARE = {('--no-defaults',): ''}
-OF_DIFF = {('--with',): 'PATH', ('--without',): 'PATH', ('--from',): 'PATH', ('--to',): 'PATH', ('--summary',): '', ('--fail-on',): 'WHAT', **BARE, **OF_READ}
+OF_DIFF = {('--with',): 'PATH', ('--without',): 'PATH', ('--from',): 'PATH', ('--to',): 'PATH', ('--summary',): '', ('--fail-on',): 'WHAT', ('--kustomize',): '', **BARE, **OF_READ}
 OF_EXPORT = {('--force',): '', ('-n', '--namespace'): 'NS', ('--context',): 'NAME',
              ('--kubeconfig',): 'FILE',
              ('--request-timeout',): 'TIME', ('--as',): 'USER', ('--as-group',): 'GROUP'}
@@ -279,5 +281,5 @@ def told(words_, folder, tools_=os.path.dirname(PROGRAM)):
 if __name__ == '__main__':
     sys.exit(tested(*plugin_exports.CHECKS, *plugin_questions.CHECKS, *plugin_paths.CHECKS, *plugin_remarks.CHECKS, *plugin_changes.CHECKS, *plugin_manifests.CHECKS, *plugin_advice.CHECKS,
                     *plugin_server.CHECKS, *plugin_terminal.CHECKS, *plugin_show.CHECKS, *plugin_sarif.CHECKS,
-                    *plugin_states.CHECKS, *plugin_law.CHECKS,
+                    *plugin_states.CHECKS, *plugin_applied.CHECKS, *plugin_law.CHECKS,
                     tools, script, make_run, completions, in_kubectl, man_page))

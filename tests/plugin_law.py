@@ -218,7 +218,7 @@ def tried(it, seed, count):
 @in_each_shell
 def law(it):
     """No gain in silence."""
-    tried(it, 1, 120)
+    tried(it, 1, 250)
 
 
 CHECKS = [law]

@@ -328,6 +328,7 @@ def taken_away(it):
         'check each kind and apiVersion in them\n'), got)
 
 
+FOREIGN = 'kubectl-rbacaudit: %s has the %s %s of %s, which is left out: it is not of rbac.authorization.k8s.io\n'
 UNKNOWN = ('kubectl-rbacaudit: nobody knows the roles of these bindings, so nothing is answered: %s; give a file with the role on both sides, or '
            '--export DIR, an export of a cluster that has it; --partial leaves these bindings out\n')
 # A branch and a change of it, which takes Bob away, lets Ann watch, and moves Kim to a role of the cluster.
@@ -392,7 +393,7 @@ def linted(it):
     findings = [finding.replace('m/0.json', 'm/z.json') for finding in findings]
     findings += ['L1\tdangling-role\tRoleBinding/default/gone\t-\tRole/default/gone\tm/within/pods.yaml',
                  'L7\treplaced-object\tRole/b/plain\t-\t1\tm/z.json']
-    said = read('m', '7 roles, 1 binding, 2 other objects') + (
+    said = read('m', '7 roles, 1 binding, 2 other objects') + FOREIGN % ('m/within/pods.yaml', 'Role', 'plain', 'example.com/v1') + (
         'kubectl-rbacaudit: these have no namespace, and count in default: RoleBinding/gone\n')
     for options, more in (([], OWN), (['--no-defaults'], '')):
         status, out, err = got = without_cluster(it, 'lint', *options, 'm')

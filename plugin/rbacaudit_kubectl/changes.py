@@ -47,7 +47,8 @@ def check_sides(options: Options) -> None:
             ('--from and --to go together: the manifests before the change, and those after it', bool(options.before) != bool(options.after)),
             ('--from and --to are the whole change: give neither --with nor --without beside them', options.before and len(paths) > 2),
             ('diff compares two exports, or one with a change: --with goes with one --export', len(options.exports) > 1 and paths),
-            ('--no-defaults is for manifests alone: an export has the roles that Kubernetes makes', options.bare and (options.exports or not options.before)),
+            ('--no-defaults is for manifests alone: an export has the roles that Kubernetes makes',
+             options.bare and (options.exports or not options.before)),
             ("-n is the namespace of a change's objects that have none, so it needs --with PATH, --without PATH, or --from PATH and "
              '--to PATH', options.namespace and not paths)):
         if is_so:
@@ -61,6 +62,11 @@ def take_side(asking: Asking, name: str, path: str) -> Manifests:
     found = take_manifests(asking.session, name, [path], asking.options.namespace)
     look_for_universe(asking.session, found.file, found.named, idle=True)
     asking.manifests[found.file] = found
+    if asking.options.fail_on and found.rendered and not asking.options.kustomize:
+        raise Refused('a kustomization says what is applied of %s, so --fail-on decides nothing; if that is meant, give --kustomize too'
+                      % found.named)
+    if asking.options.fail_on and found.foreign:
+        raise Refused('a cluster may grant by objects of %s that are left out, so --fail-on decides nothing' % found.named)
     return found
 
 
@@ -105,6 +111,8 @@ def compare_change(asking: Asking) -> int:
     else:
         session.report(over + ' the export: objects that the change deletes still count')
     if put:
+        from .labels import keep_labels
+        keep_labels(asking, put, files)
         made = [role for role in find_roles(asking, put.file) if role not in stale]
         if made:
             session.report('this change makes stale aggregates (L6 of lint): %s; a cluster grants what is written in them, for ever if '

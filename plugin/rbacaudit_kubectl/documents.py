@@ -36,8 +36,13 @@ def read_text(path: str) -> str:
 
 def read_document(path: str) -> Any:
     """The JSON value in such a file, or None."""
+    return read_json(read_text(path))
+
+
+def read_json(text: str) -> Any:
+    """The JSON value of a text, or None."""
     with suppress(ValueError, RecursionError):
-        return json.loads(read_text(path))
+        return json.loads(text)
     return None
 
 

@@ -16,7 +16,7 @@ from .documents import text_in
 from .escapes import bytes_of
 from .fields import ELSEWHERE, WHAT
 from .kubectl import RBAC
-from .manifests import BINDINGS, NAMESPACED, ROLES, Item, Manifests, is_of_rbac, key_of_item, list_text, role_of
+from .manifests import BINDINGS, NAMESPACED, ROLES, Item, Manifests, is_of_rbac, key_of_item, labels_of, list_text, role_of
 from .processes import Session
 
 Row = List[str]
@@ -130,7 +130,7 @@ class Pair:
 
     def has_other_labels(self, key: str) -> bool:
         """Whether both states have a cluster role, with other labels."""
-        labels = [(role.get('metadata') or {}).get('labels') or {} for state in self.states for role in [state.objects.get(key)] if role]
+        labels = [labels_of(state.objects[key]) for state in self.states if key in state.objects]
         return key.startswith('Cluster') and labels[0] != labels[-1]
 
     # ---- what lines tell

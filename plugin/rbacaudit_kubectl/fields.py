@@ -141,7 +141,8 @@ NUMBER = '[1-9][0-9]{0,17}'
 STEP = '(?:%s)' % '|'.join(STEP_NAMES)
 # What a field of each kind looks like. Fields of `any` may be *, which is no name then.
 KINDS = {
-    'text': FIELD, 'any': FIELD, 'detail': FIELD, 'who': PRINCIPAL, 'holder': '(?:%s|r:%s)' % (PRINCIPAL, ROLE), 'whose': '(?:%s|r:%s|total)' % (PRINCIPAL, ROLE), 'binding': BINDING, 'role': ROLE,
+    'text': FIELD, 'any': FIELD, 'detail': FIELD, 'who': PRINCIPAL, 'holder': '(?:%s|r:%s)' % (PRINCIPAL, ROLE),
+    'whose': '(?:%s|r:%s|total)' % (PRINCIPAL, ROLE), 'binding': BINDING, 'role': ROLE,
     'node': r'(?:%s|\*|%s)' % (PRINCIPAL, ROLE), 'next': r'(?:%s|[-*]|%s)' % (PRINCIPAL, ROLE), 'bound': '(?:-|%s)' % BINDING, 'held': '(?:-|%s)' % ROLE,
     'number': NUMBER, 'count': '(?:0|%s)' % NUMBER, 'place': '(?:-|%s)' % NUMBER, 'list': r'\[(?:%s(?:,%s)*)?\]' % (_WORD, _WORD),
     'code': 'L[1-9][0-9]*', 'sign': '[-+]', 'step': STEP, 'by': '(?:-|%s)' % STEP}
@@ -199,8 +200,8 @@ REMARK = Shape('', 0, ())
 
 ACCOUNT, ALL = 'u:system:serviceaccount:[^:]+:[^:]+\t-', r'\*\t\*'
 # Which nodes a step takes over, and where, if not the service accounts. Some steps are powers alone, and take over nobody.
-OVER = {'impersonate': '[ug]:.+', 'bind': '(?![ug]:).+', 'escalate': r'\*\t.+', 'certificates': '%s|%s' % (ALL, ACCOUNT), 'webhooks': ALL, 'apiservices': ALL,
-        'bootstrap': 'g:system:bootstrappers(?::.*)?\t-', **dict.fromkeys(('volumes', 'namespaces'), '(?!)')}
+OVER = {'impersonate': '[ug]:.+', 'bind': '(?![ug]:).+', 'escalate': r'\*\t.+', 'certificates': '%s|%s' % (ALL, ACCOUNT),
+        'webhooks': ALL, 'apiservices': ALL, 'bootstrap': 'g:system:bootstrappers(?::.*)?\t-', **dict.fromkeys(('volumes', 'namespaces'), '(?!)')}
 
 
 def _is_node(node: str, where: str) -> bool:

@@ -103,6 +103,7 @@ a cluster nor a kubeconfig for it. Documents of every kind pass. Standard error 
 read, and which have no namespace. This is refused:
   - a file that kubectl can't read: kubectl's reason is printed first
   - a folder without a manifest, with a Helm chart, or with a kustomization in a folder within
+  - a role or binding whose name the server makes (generateName)
   - a kind that rbac.authorization.k8s.io doesn't have, such as Clusterrole, and a role without apiVersion
 
 The List is for rbacaudit, as in:

@@ -27,6 +27,8 @@ NAMESPACED = ('Role', 'RoleBinding', 'ServiceAccount')
 PATCH = ('kubectl', 'patch', '--local', '--type=merge', '-p', '{}', '-o', 'json')
 MOST_FILES, SIDE_BY_SIDE = 1000, 4   # in a call, and calls that go on at once
 # What a file with one object surely has, and what one with several may have: another document, a list, a key that hides, UTF-16.
+# (older versions of kubectl drop the document that begins with such a line)
+ODD_SEPARATOR = re.compile(r'^---[ \t]+[^ \t\r\n].*$', re.M)
 HAS_ONE, MAY_HAVE_MORE = re.compile(r'^kind:', re.M), re.compile(r'---|items|[\\!\0]|\A\s*\{')
 
 
@@ -38,6 +40,8 @@ class Manifests:
     origins: list[str] = field(default_factory=list)
     texts: list[str] = field(default_factory=list)
     file: str = ''
+    rendered: list[str] = field(default_factory=list)   # what is said of kustomizations,
+    foreign: list[str] = field(default_factory=list)    # and of objects that look like roles and bindings of another API group
 
     @property
     def named(self) -> str:
@@ -76,6 +80,12 @@ def role_of(binding: Item) -> str:
     return key_of(*of_role)
 
 
+def labels_of(item: Any) -> dict[str, Any]:
+    metadata = item.get('metadata') if isinstance(item, dict) else None
+    found = metadata.get('labels') if isinstance(metadata, dict) else None
+    return found if isinstance(found, dict) else {}
+
+
 # ---- what kubectl reads
 
 @dataclass
@@ -106,7 +116,7 @@ def calls_for(path: str, mark: str) -> Iterator[Call]:
         raise Refused('%s says how kustomize renders its folder: give the folder' % path)
     elif not os.path.isdir(path):
         yield Call(path, [path], ['-f', as_value(path)])
-    elif any(os.path.exists(os.path.join(path, name)) for name in KUSTOMIZATIONS):
+    elif is_kustomized(path):
         yield Call(path, [path], ['-k', path])
     else:
         files = files_in(path)
@@ -226,6 +236,7 @@ def take_manifests(session: Session, name: str, paths: list[str], namespace: str
     roles = sum(kind in ROLES for kind in kinds)
     counts = (roles, 'role'), (len(kinds) - roles, 'binding'), (len(found.texts) - len(kinds), 'other object')
     session.report('read from %s: %s' % (found.named, ', '.join('%d %s%s' % (many, of, 's'[many == 1:]) for many, of in counts)))
+    look_for_doubts(session, found)
     if bare:
         first = ', '.join(bare[:3]) + (' and %d more' % (len(bare) - 3) if len(bare) > 3 else '')
         offer = '; -n NS counts them in NS' if offers and not namespace else ''
@@ -241,6 +252,45 @@ def list_text(texts: list[str]) -> str:
     return '{"apiVersion":"v1","kind":"List","items":[\n%s\n]}\n' % '\n,\n'.join(texts)
 
 
+def look_for_doubts(session: Session, found: Manifests) -> None:
+    """Reports what is read in one way here, and may be applied in another."""
+    for path in filter(is_kustomized, found.paths):
+        left = ', '.join(left_out(path))
+        found.rendered.append('%s has a kustomization, so what kubectl renders of it counts%s' % (
+            path, left and '; it leaves out these files: ' + left))
+    for file in dict.fromkeys(found.origins):
+        text = read_text(file)
+        lines = [text.count('\n', 0, one.start()) + 1 for one in ODD_SEPARATOR.finditer(text)] if not text.lstrip().startswith('{') else []
+        if lines:
+            session.report('%s has more than --- on a line with which a document begins (line %s): older versions of kubectl drop such a document' % (
+                file, ', '.join(map(str, lines))))
+    for item, origin in zip(found.items, found.origins):
+        if text_in(item, 'kind') in ROLES + BINDINGS and not is_of_rbac(item):
+            found.foreign.append('%s has the %s %s of %s, which is left out: it is not of rbac.authorization.k8s.io' % (
+                origin, item['kind'], told(text_in(item, 'metadata', 'name')), told(text_in(item, 'apiVersion'))))
+    for doubt in found.rendered + found.foreign:
+        session.report(doubt)
+
+
+def is_kustomized(path: str) -> bool:
+    """Whether a path is a folder that kubectl renders."""
+    return os.path.isdir(path) and any(os.path.exists(os.path.join(path, name)) for name in KUSTOMIZATIONS)
+
+
+def left_out(folder: str) -> list[str]:
+    """The manifests of a folder that its kustomization doesn't name; folders with one of their own are judged by themselves."""
+    said = ''.join(read_text(os.path.join(folder, name)) for name in KUSTOMIZATIONS)
+    found = []
+    for path, folders, files in os.walk(folder):
+        folders[:] = sorted(name for name in folders if not is_kustomized(os.path.join(path, name)))
+        for name in sorted(files):
+            within = os.path.relpath(os.path.join(path, name), folder)
+            is_named = re.search(r'(?<![\w/.-])(?:\./)?%s(?![\w/.-])' % re.escape(within), said)
+            if name.endswith(('.json', '.yaml', '.yml')) and name not in KUSTOMIZATIONS and not is_named:
+                found.append(os.path.join(folder, within))
+    return found
+
+
 def check_item(item: Item, origin: str) -> None:
     """Refuses an object that looks like a role or a binding, and is none."""
     kind, version = text_in(item, 'kind'), text_in(item, 'apiVersion')
@@ -248,6 +298,8 @@ def check_item(item: Item, origin: str) -> None:
         raise Refused("%s has the kind %s, which rbac.authorization.k8s.io doesn't have: check the spelling" % (origin, told(kind)))
     if not version and kind in ROLES + BINDINGS:
         raise Refused('%s has a %s without an apiVersion, so no cluster takes it' % (origin, kind))
+    if is_of_rbac(item) and not text_in(item, 'metadata', 'name') and text_in(item, 'metadata', 'generateName'):
+        raise Refused('%s has a %s without a name, because the server makes one of its generateName: give it a name' % (origin, kind))
 
 
 def need_held(undone: str, *sides: Manifests) -> None:

@@ -44,7 +44,8 @@ OF_DIFF = (
     Option('-n,--namespace', 'NS', 'namespace', 'the namespace for roles and bindings of manifests that have none (default: default)'),
     Option('--summary', '', 'summary', 'counts instead of lines: the permissions gained and lost for each who, where and binding, the powers '
            'among them, which are ways to take over somebody else, and a total'),
-    Option('--fail-on', 'WHAT', 'fail_on', 'end with status 1 for changes (default), only for gains, or only for powers that are gained'), BARE)
+    Option('--fail-on', 'WHAT', 'fail_on', 'end with status 1 for changes (default), only for gains, or only for powers that are gained'),
+    Option('--kustomize', '', 'kustomize', 'with --fail-on: a folder with a kustomization is meant to be rendered'), BARE)
 OF_READ = (Option('-n,--namespace', 'NS', 'namespace', 'put the roles and bindings that have no namespace into NS'),)
 OF_PAGE = (
     Option('-n,--namespace', 'NS', 'namespace', 'the page of one namespace: its rows, and those of the whole cluster'),
@@ -107,7 +108,7 @@ class Options:
         self.command, self.paths, self.exports, self.as_groups = command, list[str](), list[str](), list[str]()
         self.context = self.kubeconfig = self.timeout = self.namespace = self.as_user = self.title = self.diff = self.output = ''
         self.format = self.color = self.fail_on = self.with_ = self.without = self.before = self.after = ''
-        self.partial = self.force = self.every = self.headless = self.summary = self.bare = self.help = False
+        self.partial = self.force = self.every = self.headless = self.summary = self.bare = self.kustomize = self.help = False
         self.awaits = ''    # the last word, if it is an option that needs a value
 
     @property

@@ -83,7 +83,8 @@ def on_mounts(asking: Asking, meant: Type) -> Iterator[str]:
     """Who can read secrets and config maps lacks whoever may create pods, which mount them: another question has these."""
     question = asking.question
     if question.command == 'who-can' and question.verb in READING and not question.subresource and not meant.group and meant.name in MOUNTED:
-        where = '-A ' if question.everywhere else '--anywhere ' if question.anywhere else '-n %s ' % question.asked_in if question.has_namespace else ''
+        named = '-n %s ' % question.asked_in if question.has_namespace else ''
+        where = '-A ' if question.everywhere else '--anywhere ' if question.anywhere else named
         yield 'whoever may create pods in a namespace can read its %s too, by mounting them: kubectl rbacaudit who-can %s%screate pods lists them' % (
             meant.name, '--indirect ' * question.indirect, where)
 

@@ -7,9 +7,9 @@ import json
 from .answer import Asking, ask, ask_well
 from .changes import show_rows, take_side
 from .defaults import list_file, own_beside
-from .elsewhere import Pair, State, file_of, joined
+from .elsewhere import Pair, State, file_of, joined, selectors_of
 from .errors import Refused
-from .manifests import BINDINGS, need_held, role_of
+from .manifests import BINDINGS, ROLES, need_held, role_of
 from .remarks import first_three
 from .stale import rows_of
 
@@ -32,6 +32,7 @@ def compare_states(asking: Asking) -> int:
     if done.status > 1:
         return done.status
     look_for_unknown(asking, before, after)
+    look_for_stale(asking, before, after, bound[2:4], bound[5:7])
     rows = joined(map(pair.told, rows_of(done.out)), map(pair.told_of_holder, rows_of(ask_well(asking, held, held[2::2]).out)))
     return show_rows(asking, rows, sides[0], sides[1], own)
 
@@ -48,13 +49,25 @@ def look_for_unknown(asking: Asking, before: State, after: State) -> None:
             elif not is_same and not is_known and (state is after or role_of(binding) not in before.objects):
                 changed[key] = role_of(binding)
     if same:
-        asking.session.report('nobody knows the roles of these bindings, which are the same on both sides, so they change nothing: %s' % first_three(same))
+        asking.session.report('nobody knows the roles of these bindings, which are the same on both sides, so they change nothing: %s'
+                              % first_three(same))
     listed = ', '.join('%s to %s' % pair for pair in sorted(changed.items()))
     if changed and not asking.options.partial:
-        raise Refused('nobody knows the roles of these bindings, so nothing is answered: %s; give a file with the role on both sides, or --export DIR, '
-                      'an export of a cluster that has it; --partial leaves these bindings out' % listed)
+        raise Refused('nobody knows the roles of these bindings, so nothing is answered: %s; give a file with the role on both sides, or '
+                      '--export DIR, an export of a cluster that has it; --partial leaves these bindings out' % listed)
     if changed:
         asking.session.report('these bindings are left out, because nobody knows their roles: %s' % listed)
+
+
+def look_for_stale(asking: Asking, before: State, after: State, *files: list[str]) -> None:
+    """Refuses aggregated roles that come, go or change with written rules that they don't gather: roles that select each other keep these."""
+    changed = {key for state in (before, after) for key, role in state.of(ROLES).items()
+               if selectors_of(role) and role.get('rules') and before.objects.get(key) != after.objects.get(key)}
+    found = [rows_of(asking.session.capture(['rbacaudit', 'lint', '--only=L6', *some]).out) for some in files if changed]
+    stale = sorted({row[2] for rows in found for row in rows} & changed)
+    if stale and not asking.options.partial:
+        raise Refused('stale aggregates (L6 of lint): %s; a cluster grants what is written in them, for ever if they select each other, so '
+                      'nothing is answered; leave their rules empty, or --partial compares what they gather' % ', '.join(stale))
 
 
 def grant_of(state: State, key: str) -> tuple[str, list[str]] | None:
