@@ -426,9 +426,9 @@ def krew(room):
 
 # Serves the archive, under the address of the jobs alone.
 CURL = """#!/bin/sh
-[ "$*" = "-fsSLo rbacaudit.tar.gz https://downloads.example.com/%s" ] && cp '%s' rbacaudit.tar.gz
+[ "$#,$1,$3" = "3,-fsSLo,https://downloads.example.com/%s" ] && cp '%s' "$2"
 """
-JOB_TOOLS = 'bash', 'comm', 'git', 'sed', 'wc'
+JOB_TOOLS = 'bash', 'comm', 'cut', 'env', 'fold', 'git', 'grep', 'mktemp', 'sed', 'wc', *PLUGIN_TOOLS
 NEW = """### Gained: 10. Lost: 0. New findings: 2.
 
     +\tu:system:serviceaccount:ci:deploy-checkout\tcheckout\tget\t-\tsecrets\t*\tRoleBinding/checkout/ci-deploys
@@ -504,13 +504,13 @@ def commit(folder, files):
 class Job:
     """A job in a checkout of one branch, as deep as GitHub's."""
 
-    def __init__(self, room, address, branch, tools=None):
+    def __init__(self, room, address, branch):
         self.folder = tempfile.mkdtemp(dir=room.path)
         git(self.folder, 'clone', '-q', '--depth', '1', '--branch', branch, address, 'work')
         self.work = os.path.join(self.folder, 'work')
         self.summary = os.path.join(self.folder, 'summary')
         self.environment = room.without_kit(
-            tools or room.at('job-tools'), **GIT, ARCHIVE='https://downloads.example.com/' + ARCHIVE,
+            room.at('job-tools'), **GIT, ARCHIVE='https://downloads.example.com/' + ARCHIVE,
             GITHUB_BASE_REF='main',
             GITHUB_STEP_SUMMARY=self.summary, CI_MERGE_REQUEST_TARGET_BRANCH_NAME='main',
             SHA256=sum_of(room.made(ARCHIVE)))
@@ -525,9 +525,8 @@ class Job:
 def jobs(room):
     """Both jobs: more is allowed, the same is, a file is bad, the archive has another sum."""
     github, gitlab, after, script = jobs_text()
-    tools = room.linked('job-tools', *JOB_TOOLS)
-    write(CURL % (ARCHIVE, room.made(ARCHIVE)), tools, 'curl')
-    os.chmod(os.path.join(tools, 'curl'), 0o755)
+    if not has_kubectl(room):
+        return
     address = origin(room, script)
     for branch, status, told in (('more', 1, NEW), ('same', 0, SAME)):
         job = Job(room, address, branch)
@@ -539,14 +538,47 @@ def jobs(room):
     for name, shell in (('GitHub', github), ('GitLab', gitlab)):
         job = Job(room, address, 'bad')
         got = job.run(shell)
-        holds(name + ': bad', got[0] == 1 and 'M1 not JSON' in got[1] and not job.told(), got)
+        holds(name + ': bad', got[0] == 2 and "kubectl can't read rbac" in got[1] and not job.told(), got)
         job = Job(room, address, 'same')
         got = job.run(shell, SHA256='0' * 64)
-        holds(name + ': another sum', got[0] != 0 and 'Gained' not in got[1] and not job.told()
-                and not os.path.exists(job.work + '/main'), got)
+        holds(name + ': another sum', got[0] != 0 and 'Gained' not in got[1] and not job.told(), got)
         job.run(shell)
-        shutil.rmtree(job.work + '/main')
         holds(name + ': once more in the same folder', job.run(shell)[0] == 0)
+    hostile(room, address, 'rbac/roles.json', (github, gitlab), ('review.md', 'changes', 'gained', 'found', 'main.json'))
+
+
+# A change that carries programs, a script, links, hidden files and files of folders within, and a name that hides.
+HOSTILE = '''{"apiVersion": "rbac.authorization.k8s.io/v1", "kind": "ClusterRoleBinding", "metadata": {"name": "%s"},
+"roleRef": {"apiGroup": "rbac.authorization.k8s.io", "kind": "ClusterRole", "name": "cluster-admin"}, "subjects": [{"kind": "User", "name": "%s"}]}'''
+OWN_PROGRAM = '#!/bin/sh\necho ran >> ../ran\n'
+
+
+def hostile(room, address, reads, shells, links):
+    """A job runs nothing of the change, writes through no link of it, and reads what kubectl reads."""
+    folder = room.at('hostile' + str(len(links)))
+    git(room.path, 'clone', '-q', address, folder)
+    git(folder, 'checkout', '-q', '-b', 'hostile', 'origin/main')
+    programs = [os.path.join(place, name) for place in ('rbacaudit-0/bin', 'rbacaudit-0.1.0-x86_64-linux/bin', 'bin', 'main')
+                for name in ('git', 'kubectl', 'kubectl-rbacaudit', 'rbacaudit', 'tr', 'sed', 'review.sh', 'summary.sh')]
+    for name, text in [*((name, OWN_PROGRAM) for name in programs), ('rbac/.hidden.json', HOSTILE % ('hidden', 'eve')), ('rbac/in/.x/y.yaml', HOSTILE % ('within', 'x\u202ey')),
+                       ('main/rbac/all.json', HOSTILE % ('main', 'eve')), ('rbacaudit.tar.gz', 'no archive')]:
+        os.makedirs(os.path.dirname(os.path.join(folder, name)), exist_ok=True)
+        write(text, folder, name)
+        os.chmod(os.path.join(folder, name), 0o755)
+    for name in links:
+        os.symlink('../stolen', os.path.join(folder, name))
+    git(folder, 'add', '-Af')
+    git(folder, 'commit', '-q', '-m', 'Better roles')
+    git(folder, 'push', '-q', address, 'hostile')
+    for shell, name in zip(shells, ('GitHub', 'GitLab')):
+        job = Job(room, address, 'hostile')
+        write('safe', job.folder, 'stolen')
+        got = job.run(shell, **({'GITHUB_STEP_SUMMARY': ''} if name == 'GitLab' else {}))
+        told = got[1] + (job.told() or '') + ''.join(bytes_of(job.work, file).decode() for file in ('review.md', 'summary.md') if os.path.isfile(os.path.join(job.work, file)))
+        holds('%s, a hostile change of %s: nothing of it runs' % (name, reads), not os.path.exists(os.path.join(job.folder, 'ran')) and got[0] == 1, got)
+        holds('%s, a hostile change of %s: no link is written through' % (name, reads), bytes_of(job.folder, 'stolen') == b'safe', bytes_of(job.folder, 'stolen'))
+        holds('%s, a hostile change of %s: all files are read' % (name, reads), 'ClusterRoleBinding/hidden' in told and 'ClusterRoleBinding/within' in told, told)
+        holds('%s, a hostile change of %s: nothing hides' % (name, reads), '\u202e' not in told, told)
 
 
 # kubectl as the jobs call it, where there is none.
@@ -556,7 +588,25 @@ case $1 in
     patch) shift 7; exec '%s' '%s' "$@" ;;
 esac
 ''' % (sys.executable, LOCAL_KUBECTL)
-MANIFEST_TOOLS = 'bash', 'cut', 'env', 'fold', 'git', 'grep', 'sed', 'wc', *PLUGIN_TOOLS
+
+
+def has_kubectl(room):
+    """Whether jobs have kubectl, or a stand-in that can read YAML; the tools of jobs are then in a folder."""
+    found = shutil.which('kubectl')
+    if not found:
+        skipped('kubectl', 'the jobs, but by a stand-in')
+        if yaml is None:
+            skipped('PyYAML', 'the jobs')
+            return False
+    if not os.path.exists(room.at('job-tools')):
+        tools = room.linked('job-tools', *JOB_TOOLS)
+        write(CURL % (ARCHIVE, room.made(ARCHIVE)), tools, 'curl')
+        write('#!/bin/sh\nexec "%s" "$@"\n' % found if found else KUBECTL, tools, 'kubectl')
+        for name in ('curl', 'kubectl'):
+            os.chmod(os.path.join(tools, name), 0o755)
+    return True
+
+
 MORE = '+\tu:system:serviceaccount:shop:ci\tshop\tget\t-\tsecrets\t*\tRoleBinding/shop/ci-deploys\n'
 LESS = ''.join('-\tg:shop-support\tshop\tget\t-\t%s\t*\tRoleBinding/shop/support\n' % type_ for type_ in ('pods', 'pods/log'))
 # What the script of both jobs adds to a pull request.
@@ -576,17 +626,8 @@ LESS_SUMMARY = """### Who gains and loses what
 
 def manifests(room):
     """The jobs over manifests, with kubectl or its stand-in: more is allowed, less is, and a file is bad."""
-    found = shutil.which('kubectl')
-    if not found:
-        skipped('kubectl', 'the jobs over manifests, but by a stand-in')
-        if yaml is None:
-            skipped('PyYAML', 'the jobs over manifests')
-            return
-    tools = room.linked('manifest-tools', *MANIFEST_TOOLS)
-    write(CURL % (ARCHIVE, room.made(ARCHIVE)), tools, 'curl')
-    write('#!/bin/sh\nexec "%s" "$@"\n' % found if found else KUBECTL, tools, 'kubectl')
-    for name in ('curl', 'kubectl'):
-        os.chmod(os.path.join(tools, name), 0o755)
+    if not has_kubectl(room):
+        return
     folder = shutil.copytree(os.path.join(TOP, 'examples/manifests/main'), room.at('manifests') + '/rbac') + '/..'
     run(['bash', '-c', next(command for command, _ in steps(text_of('docs', 'RECIPES.md')) if command.startswith('cat > summary.sh '))], folder)
     less = text_of('examples/manifests/main/support.yaml').partition('---\n')[0]
@@ -595,15 +636,16 @@ def manifests(room):
         'less': {'rbac/support.yaml': less}, 'bad': {'rbac/deployer.yaml': 'kind: ClusterRole\n\tname: x\n'}})
     github, gitlab = shell_parts(*jobs_below('Jobs for pull requests'))
     for branch, status, changes, summary in (('more', 1, MORE, MORE_SUMMARY), ('less', 0, LESS, LESS_SUMMARY), ('bad', 1, '', None)):
-        job = Job(room, address, branch, tools)
+        job = Job(room, address, branch)
         got = job.run(github)
         holds('GitHub, manifests: ' + branch, got[0] == status and changes in got[1] and job.told() == summary, (got, job.told()))
         holds('GitHub, manifests: %s: the file' % branch, branch != 'bad' or 'rbac/deployer.yaml' in got[1], got)
-        job = Job(room, address, branch, tools)
+        job = Job(room, address, branch)
         got = job.run(gitlab, GITHUB_STEP_SUMMARY='')
         path = os.path.join(job.work, 'summary.md')
         told = bytes_of(path).decode() if os.path.exists(path) else None
         holds('GitLab, manifests: ' + branch, got[0] == status and changes in got[1] and told == summary, (got, told))
+    hostile(room, address, 'manifests', (github, gitlab), ('summary.md', 'summary', 'log', 'changes'))
 
 
 def all_of_it():
