@@ -2,7 +2,7 @@
 use Rattle.std.proofs.Common.{◌≡◌, ◌↔◌, [], List, Any, Contains, arith, inl, inr, subst, sym}
 use Rattle.std.specs.Prelude.{codes}
 use Rattle.std.specs.List.Retain.{DiffersFromLast, IsFiltered}
-use Rattle.std.specs.List.Sorted.{IsPermutation, IsSorted}
+use Rattle.std.specs.List.Sorted.{IsPermutation, IsSorted, IsStrictlySortedBy}
 use Rattle.std.specs.Cmp.Lexicographic.{texts_ties}
 use Rattle.std.specs.Str.{bytes_eq}
 use Rattle.std.proofs.lemmas.Cmp.{nat_list_cmp_total, nat_list_eq_equiv}
@@ -83,17 +83,30 @@ module _ (h : Held) (names : List Text) (in_rules : (name : Text) → Contains n
     ],
   )
 
--- after a sort and a dedup, the names are exactly the bound names, in order
-pub names_are : (h : Held) (all sorted once : List Text) → ((name : Text) → Contains all name ↔ IsBoundName h name) → IsPermutation all sorted → IsSorted text_cmp sorted → IsFiltered (DiffersFromLast bytes_eq) [] sorted once → AreBoundNames h once
-names_are h all sorted once are moved up kept =
-    let e = dedup_is bytes_eq sorted once kept in
-    record {
-      ascending = rw e (IsStrictlySortedBy-dedup nat_list_cmp_total texts_ties sorted up);
-      exact = λ w. (
-        λ c. (are w).0 (Contains-permutation sorted all w (IsPermutation-sym all sorted moved) (Contains-from_dedup bytes_eq sorted w (rw e at c))),
-        λ c. rw e (Contains-dedup nat_list_eq_equiv (λ x y. (bytes_eq-Decides x y).0) sorted w (Contains-permutation all sorted w moved ((are w).1 c))),
-      );
-    }
+-- after a sort and a dedup, the names are the same, in order
+module _ (all sorted once : List Text) (moved : IsPermutation all sorted) (up : IsSorted text_cmp sorted) (kept : IsFiltered (DiffersFromLast bytes_eq) [] sorted once) where
+  pub put_in_order : IsStrictlySortedBy text_cmp once
+  put_in_order = rw (dedup_is bytes_eq sorted once kept) (IsStrictlySortedBy-dedup nat_list_cmp_total texts_ties sorted up)
+
+  pub same_names : (w : Text) → Contains once w ↔ Contains all w
+  same_names w =
+      let e = dedup_is bytes_eq sorted once kept in (
+        λ c. Contains-permutation sorted all w (IsPermutation-sym all sorted moved) (Contains-from_dedup bytes_eq sorted w (rw e at c)),
+        λ c. rw e (Contains-dedup nat_list_eq_equiv (λ x y. (bytes_eq-Decides x y).0) sorted w (Contains-permutation all sorted w moved c)),
+      )
+
+-- names that are put in order are bound names as before
+pub names_are : (h : Held) (listed names in_rules bound : List Text)
+    → ((name : Text) → Contains listed name ↔ SomeRule (λ rule. BindsNamed rule name) h) → ((name : Text) → Contains names name ↔ IsBoundName h name)
+    → IsStrictlySortedBy text_cmp in_rules → IsStrictlySortedBy text_cmp bound
+    → ((name : Text) → Contains in_rules name ↔ Contains listed name) → ((name : Text) → Contains bound name ↔ Contains names name)
+    → AreBoundNames h in_rules bound
+names_are h listed names in_rules bound of are up ascending same too = record {
+  listed_ascending = up;
+  ascending = ascending;
+  of_rules = λ w. (λ c. (of w).0 ((same w).0 c), λ is. (same w).1 ((of w).1 is));
+  exact = λ w. (λ c. (are w).0 ((too w).0 c), λ is. (too w).1 ((are w).1 is));
+}
 
 -- ---- each Role, and not each cluster role
 

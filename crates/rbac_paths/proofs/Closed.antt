@@ -294,7 +294,7 @@ module _ (p : PolicyView) (ok : IsPolicy p) (steps : List Step) (x : NodeView) (
   hides_cluster_role role None all = all
   hides_cluster_role role (Some namespace) all = inr (inl all)
 
-  pub cluster_role_bound : (step : Step) (role : ClusterRole) (scope : Option Text) → TakesByStep p steps x step (ClusterRoleIn role scope) → IsBoundName p.held role.name
+  pub cluster_role_bound : (step : Step) (role : ClusterRole) (scope : Option Text) → TakesByStep p steps x step (ClusterRoleIn role scope) → SomeRule (λ rule. BindsNamed rule role.name) p.held
   cluster_role_bound step role scope t =
       let y = ClusterRoleIn role scope in
       let c = t.can in
@@ -303,7 +303,7 @@ module _ (p : PolicyView) (ok : IsPolicy p) (steps : List Step) (x : NodeView) (
       let h = (by step y t).0 in
       let at = in_table step y t (codes "clusterroles") over.ClusterRoles same in
       let named : BindsNamed h.rule role.name ⊎ RuleTakes Bind h.home h.rule (EverythingIn scope) = subst (λ (n : Text). BindsNamed h.rule n ⊎ RuleTakes Bind h.home h.rule (EverythingIn scope)) w.over.1 (named_or_all h.home h.rule y scope at w w.over.0) in
-      inl (bound step y t (codes "clusterroles") over.ClusterRoles same (λ rule. BindsNamed rule role.name) scope tt (hides_cluster_role role scope) named)
+      bound step y t (codes "clusterroles") over.ClusterRoles same (λ rule. BindsNamed rule role.name) scope tt (hides_cluster_role role scope) named
 
   pub role_bound : (step : Step) (role : Role) → Contains p.held.roles role → TakesByStep p steps x step (OwnRole role) → IsBoundName p.held role.name
   role_bound step role there t =

@@ -19,9 +19,9 @@ use Rattle.rbac_paths.proofs.Mapped.{contains_map, map_contains, pairs_map, some
 use Rattle.rbac_paths.proofs.NodeWords.{one_node}
 
 module _ (p : PolicyView) (held : IsHeld p.held) (ps : List Who) (tell : (who other : Who) → Contains ps who → Contains ps other → who_key who ≡ who_key other → who ≡ other)
-    (m n : PrintedNodes) (empty : (t : Text) → get text_cmp m t ≡ None) (up : IsOrdered text_cmp n) (names : List Text) (adds : AddsNodes (λ y. IsNode p ps y × IsNamedOf names y) m n) where
+    (m n : PrintedNodes) (empty : (t : Text) → get text_cmp m t ≡ None) (up : IsOrdered text_cmp n) (listed_names names : List Text) (adds : AddsNodes (λ y. IsNode p ps y × IsNamedOf listed_names names y) m n) where
   abbrev IsListed : NodeView → Type 0
-  IsListed y = IsNode p ps y × IsNamedOf names y
+  IsListed y = IsNode p ps y × IsNamedOf listed_names names y
 
   told : (t : Text) (x : Node) → get text_cmp n t ≡ Some x → (t ≡ node_text (node_of x)) × IsListed (node_of x)
   told t x e = elim (adds.only t x e) [
@@ -61,5 +61,5 @@ module _ (p : PolicyView) (held : IsHeld p.held) (ps : List Who) (tell : (who ot
       subst (λ z. Contains (map node_of (values n)) z) (sym (one_node p held ps tell y (node_of x.0) is.0 own.1.0 own.0))
       (map_contains node_of (values n) x.0 (map_contains (λ e. e.1) n.entries e there))
 
-  pub all_nodes : AreNodes p ps names (map node_of (values n))
+  pub all_nodes : AreNodes p ps listed_names names (map node_of (values n))
   all_nodes = record { ordered = in_order; exact = λ y. (is_listed y, listed y) }

@@ -147,31 +147,31 @@ module _ (p : PolicyView) (names : List Text) (rs : List (Bor ClusterRole)) (nam
 
 -- ---- which nodes there are
 
-module _ {X : Type 0} (f : X → Who) (xs : List X) (p : PolicyView) (names : List Text) where
+module _ {X : Type 0} (f : X → Who) (xs : List X) (p : PolicyView) (listed names : List Text) where
   abbrev pub IsOfThese : NodeView → Type 0
   IsOfThese y = Any (λ who. y ≡ Somebody (f who)) xs
 
   abbrev pub IsListed : NodeView → Type 0
-  IsListed y = IsNode p (map f xs) y × IsNamedOf names y
+  IsListed y = IsNode p (map f xs) y × IsNamedOf listed names y
 
-  is_node : (y : NodeView) → (IsOfThese y ⊎ IsInSomeScope p names y) ⊎ IsSomeBoundRole p names y → IsListed y
+  is_node : (y : NodeView) → (IsOfThese y ⊎ IsInSomeScope p listed y) ⊎ IsSomeBoundRole p names y → IsListed y
   is_node y (inl (inl any)) = subst (λ z. IsListed z) (sym any.4) (map_contains f xs any.1 (any.0, any.2, any.3), tt)
   is_node y (inl (inr (scope, is, inl e))) = subst (λ z. IsListed z) (sym e) (is, tt)
   is_node y (inl (inr (scope, is, inr own))) = subst (λ z. IsListed z) (sym own.2) ((own.1.0, is), own.1.1)
   is_node y (inr any) = subst (λ z. IsListed z) (sym any.4.0) (((any.0, any.2, any.3), any.4.1), any.4.2)
 
-  from_node : (y : NodeView) → IsNode p (map f xs) y → IsNamedOf names y → (IsOfThese y ⊎ IsInSomeScope p names y) ⊎ IsSomeBoundRole p names y
+  from_node : (y : NodeView) → IsNode p (map f xs) y → IsNamedOf listed names y → (IsOfThese y ⊎ IsInSomeScope p listed y) ⊎ IsSomeBoundRole p names y
   from_node (Somebody who) c named = let x = contains_map f xs who c in inl (inl (x.1.0, x.0, x.1.1, x.1.2, ap Somebody (sym x.2)))
   from_node (ClusterRoleIn role scope) (c, is) named = inl (inr (scope, is, inr (role, (c, named), refl)))
   from_node (OwnRole role) (c, is) named = inr (c.0, role, c.1, c.2, (refl, is, named))
   from_node (EverythingIn scope) is named = inl (inr (scope, is, inl refl))
 
-  pub which_nodes : (y : NodeView) → ((IsOfThese y ⊎ IsInSomeScope p names y) ⊎ IsSomeBoundRole p names y) ↔ IsListed y
+  pub which_nodes : (y : NodeView) → ((IsOfThese y ⊎ IsInSomeScope p listed y) ⊎ IsSomeBoundRole p names y) ↔ IsListed y
   which_nodes y = (is_node y, λ is. from_node y is.0 is.1)
 
   -- ---- everything in a namespace is there exactly if it is a scope
 
-  of_namespace : (namespace : Text) (y : NodeView) → y ≡ EverythingIn (Some namespace) → IsOfThese y ⊎ IsInSomeScope p names y → IsScope p (Some namespace)
+  of_namespace : (namespace : Text) (y : NodeView) → y ≡ EverythingIn (Some namespace) → IsOfThese y ⊎ IsInSomeScope p listed y → IsScope p (Some namespace)
   of_namespace namespace y e (inl any) = absurd (let both : EverythingIn (Some namespace) ≡ Somebody (f any.1) = sym e ∙ any.4 in cc)
   of_namespace namespace y e (inr (scope, is, inl own)) =
       let both : EverythingIn scope ≡ EverythingIn (Some namespace) = sym own ∙ e in
@@ -179,7 +179,7 @@ module _ {X : Type 0} (f : X → Who) (xs : List X) (p : PolicyView) (names : Li
       subst (λ (s : Option Text). IsScope p s) same is
   of_namespace namespace y e (inr (scope, is, inr own)) = absurd (let both : EverythingIn (Some namespace) ≡ ClusterRoleIn own.0 scope = sym e ∙ own.2 in cc)
 
-  pub scopes_there : (a b : PrintedNodes) → ((t : Text) → get text_cmp a t ≡ None) → AddsNodes (λ y. IsOfThese y ⊎ IsInSomeScope p names y) a b → ScopesAreThere p b
+  pub scopes_there : (a b : PrintedNodes) → ((t : Text) → get text_cmp a t ≡ None) → AddsNodes (λ y. IsOfThese y ⊎ IsInSomeScope p listed y) a b → ScopesAreThere p b
   scopes_there a b empty adds namespace = (
     λ there. (let x = some_is (get text_cmp b (node_text (EverythingIn (Some namespace)))) there in
         elim (adds.only (node_text (EverythingIn (Some namespace))) x.0 x.1) [

@@ -23,7 +23,7 @@ use Rattle.rbac_paths.proofs.GraphWays.{IsGraphBy, among, at_low, before, fewest
 use Rattle.rbac_paths.proofs.PathsFound.{named}
 use Rattle.rbac_paths.proofs.Tracing.{is_here, matched, matched_none, matched_some}
 
-module _ (p : PolicyView) (ok : IsPolicy p) (all : List Who) (names : List Text) (bound : AreBoundNames p.held names) (ys : List NodeView) (are : AreNodes p all names ys) (steps : List Step) (asked : AccessView) where
+module _ (p : PolicyView) (ok : IsPolicy p) (all : List Who) (listed names : List Text) (bound : AreBoundNames p.held listed names) (ys : List NodeView) (are : AreNodes p all listed names ys) (steps : List Step) (asked : AccessView) where
   abbrev Goes : NodeView → NodeView → Type 0
   Goes x y = GoesTo p all steps x y
 
@@ -38,7 +38,7 @@ module _ (p : PolicyView) (ok : IsPolicy p) (all : List Who) (names : List Text)
 
   -- each node that a listed node takes over is listed
   closed : (x y : NodeView) → Contains ys x → Goes x y → Contains ys y
-  closed x y c goes = (are.exact y).1 (goes.0, named p ok all names bound ys are steps x y (is_node x c) goes.0 goes.1)
+  closed x y c goes = (are.exact y).1 (goes.0, named p ok all listed names bound ys are steps x y (is_node x c) goes.0 goes.1)
 
   -- ---- the search from users and groups
 
@@ -63,7 +63,7 @@ module _ (p : PolicyView) (ok : IsPolicy p) (all : List Who) (names : List Text)
         λ c. start_of y (is_node y (among ys j y at)) (is_here IsSomebody ys j y at ((somebody j).0 c)),
         λ is. (somebody j).1 (y, at, subst IsSomebody (sym is.2) tt),
       );
-      start_in = λ y is. (are.exact y).1 (subst (λ (z : NodeView). IsNode p all z × IsNamedOf names z) (sym is.2) (is.1, tt));
+      start_in = λ y is. (are.exact y).1 (subst (λ (z : NodeView). IsNode p all z × IsNamedOf listed names z) (sym is.2) (is.1, tt));
       closed = closed;
       ordered = are.ordered;
     }

@@ -40,7 +40,9 @@ abbrev pub IsBoundName : Held → Text → Type 0
 IsBoundName h name = SomeRule (λ rule. BindsNamed rule name) h
     ⊎ (SomeRule BindsEachRole h × Any (λ role. role.name ≡ name) h.roles)
 
--- exactly these names, in byte order, each once
-pub record AreBoundNames (h : Held) (names : List Text) : Type 0 where
+-- exactly the names that rules list, and exactly the bound names: each in byte order, each once
+pub record AreBoundNames (h : Held) (listed names : List Text) : Type 0 where
+  pub listed_ascending : IsStrictlySortedBy text_cmp listed
   pub ascending : IsStrictlySortedBy text_cmp names
+  pub of_rules : (name : Text) → Contains listed name ↔ SomeRule (λ rule. BindsNamed rule name) h
   pub exact : (name : Text) → Contains names name ↔ IsBoundName h name

@@ -24,13 +24,13 @@ IsNode p principals (ClusterRoleIn role scope) = Contains p.held.cluster_roles r
 IsNode p principals (OwnRole role) = Contains p.held.roles role × IsScope p (Some role.namespace)
 IsNode p principals (EverythingIn scope) = IsScope p scope
 
--- the node is a user or a group, a role with one of these names, or everything (own: other roles
--- aren't listed)
-abbrev pub IsNamedOf : List Text → NodeView → Type 0
-IsNamedOf names (Somebody who) = Unit {0}
-IsNamedOf names (ClusterRoleIn role scope) = Contains names role.name
-IsNamedOf names (OwnRole role) = Contains names role.name
-IsNamedOf names (EverythingIn scope) = Unit {0}
+-- the node is a user or a group, a cluster role with one of the first names, a Role with one of the
+-- second, or everything (own: other roles aren't listed)
+abbrev pub IsNamedOf : List Text → List Text → NodeView → Type 0
+IsNamedOf listed names (Somebody who) = Unit {0}
+IsNamedOf listed names (ClusterRoleIn role scope) = Contains listed role.name
+IsNamedOf listed names (OwnRole role) = Contains names role.name
+IsNamedOf listed names (EverythingIn scope) = Unit {0}
 
 -- who or what a node is: the key of a user or a group, the kind and name of a role, or `*`
 abbrev pub who_or_what : NodeView → Text
@@ -51,9 +51,10 @@ where_text (EverythingIn scope) = choice_and_tab scope
 abbrev pub node_text : NodeView → Text
 node_text y = field_and_tab (who_or_what y) ++ where_text y
 
--- exactly the nodes of the policy, but of the roles only those with one of these names; in order of
--- who and where, byte by byte as printed (own)
-pub record AreNodes (p : PolicyView) (principals : List Who) (names : List Text)
+-- exactly the nodes of the policy, but of the cluster roles only those with one of the first names,
+-- and of the Roles those with one of the second; in order of who and where, byte by byte as printed
+-- (own)
+pub record AreNodes (p : PolicyView) (principals : List Who) (listed names : List Text)
     (ys : List NodeView) : Type 0 where
   pub ordered : AllPairs (λ y z. text_cmp (node_text y) (node_text z) ≡ Less) ys
-  pub exact : (y : NodeView) → Contains ys y ↔ (IsNode p principals y × IsNamedOf names y)
+  pub exact : (y : NodeView) → Contains ys y ↔ (IsNode p principals y × IsNamedOf listed names y)

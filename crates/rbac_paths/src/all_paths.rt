@@ -103,7 +103,9 @@ pub fn paths<'p>(
     let rows = rows.as_slice();
     let all = principals_with(alloc, principals, who)?;
     let names = bound_names(alloc, policy)?;
-    let nodes = nodes_of(alloc, policy, all.as_slice(), names.as_slice())?;
+    let listed = names.listed.as_slice();
+    let names = names.all.as_slice();
+    let nodes = nodes_of(alloc, policy, all.as_slice(), listed, names)?;
     let nodes = nodes.as_slice();
     let made = graph_of(alloc, policy, index, rows, nodes)?;
     let starts = places_of(alloc, nodes, who)?;

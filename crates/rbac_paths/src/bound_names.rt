@@ -6,7 +6,8 @@
 ghost use Rattle.std.specs.Prelude.{◌≡◌, ◌⊎◌, ◌↔◌, [], Any, Contains, IfOk, IsTrue, OnOk};
 ghost use Rattle.rbac_terms.specs.Matching.{RuleAllows};
 ghost use Rattle.rbac_terms.specs.Targets.{Resource};
-ghost use Rattle.rbac_terms.specs.Text.{Text};
+ghost use Rattle.std.specs.List.Sorted.{IsStrictlySortedBy};
+ghost use Rattle.rbac_terms.specs.Text.{Text, text_cmp};
 ghost use Rattle.rbac_model.specs.Policies.{IsPolicy};
 ghost use Rattle.rbac_paths.specs.BoundNames.{AreBoundNames, BindsEach, BindsEachRole, BindsNamed, IsBoundName};
 ghost use Rattle.rbac_paths.specs.BoundNames.{SomeRule};
@@ -21,19 +22,43 @@ use rbac_steps::Step;
 use rbac_terms::{ClusterRole, Role, Rule, Word, group_matches, resource_matches, verb_matches};
 use std::alloc::{AllocError, Global};
 
-/// The object names of all rules of this policy that let one bind roles; and the names of all Roles,
-/// if a rule lets one bind each Role. In byte order, each once.
-pub(crate) fn bound_names(alloc: Global, policy: &Policy) -> Result<Vec<Word>, AllocError>
-    ensures names { IfOk result (λ names. AreBoundNames policy.now.held names.items) }
-    ensures policy { OnOk result (IsPolicy policy.now) }
-{
-    let mut names = all_bound(alloc, policy)?;
-    names.sort_unstable();
-    names.dedup();
-    Ok(names)
+/// Names of roles, in byte order, each once.
+#[derive(Drop)]
+pub(crate) struct BoundNames {
+    /// The object names of all rules of the policy that let one bind roles. A cluster role with
+    /// another name is taken over only with everything in its scope.
+    pub(crate) listed: Vec<Word>,
+    /// The same; and the names of all Roles, if a rule lets one bind each Role and not each cluster
+    /// role.
+    pub(crate) all: Vec<Word>,
 }
 
-// The same names, in any order and with repeats.
+/// The names of the roles that rules of this policy let one bind.
+pub(crate) fn bound_names(alloc: Global, policy: &Policy) -> Result<BoundNames, AllocError>
+    ensures names { IfOk result
+        (λ names. AreBoundNames policy.now.held names.listed.items names.all.items) }
+    ensures policy { OnOk result (IsPolicy policy.now) }
+{
+    let listed = names_in_rules(alloc, policy)?;
+    let listed = in_order(listed);
+    let all = all_bound(alloc, policy)?;
+    let all = in_order(all);
+    Ok(BoundNames { listed, all })
+}
+
+// These names in byte order, each once.
+fn in_order(names: Vec<Word>) -> Vec<Word>
+    ensures ordered { IsStrictlySortedBy text_cmp result.items }
+    ensures same { (name : Text) → Contains result.items name ↔ Contains names.items name }
+{
+    let mut sorted = names;
+    sorted.sort_unstable();
+    sorted.dedup();
+    sorted
+}
+
+// The object names of all rules of this policy that let one bind roles; and the names of all Roles,
+// if a rule lets one bind each Role. In any order and with repeats.
 fn all_bound(alloc: Global, policy: &Policy) -> Result<Vec<Word>, AllocError>
     ensures names { IfOk result (λ names. (name : Text)
         → Contains names.items name ↔ IsBoundName policy.now.held name) }

@@ -23,24 +23,27 @@ use std::collections::BTreeMap;
 // Nodes. The key of each is its printed text: who or what, and where.
 type Printed<'p> = BTreeMap<Word, Node<'p>>;
 
-/// The nodes of a policy (own): these users and groups; the roles with one of these names, in each
-/// scope where they can be bound; and everything in each scope. Nodes are in order of who and
-/// where, byte by byte as printed. No two of the users and groups may have the same key, and the
-/// names are in byte order. Fails only if it runs out of memory.
+/// The nodes of a policy (own): these users and groups; the cluster roles with one of the listed
+/// names, and the Roles with one of `names`, in each scope where they can be bound; and everything
+/// in each scope. Nodes are in order of who and where, byte by byte as printed. No two of the users
+/// and groups may have the same key, and the names are in byte order. Fails only if it runs out of
+/// memory.
 pub(crate) fn nodes_of<'p>(
     alloc: Global,
     policy: &'p Policy,
     principals: &[&'p Principal],
+    listed: &[Word],
     names: &[Word],
 ) -> Result<Vec<Node<'p>>, AllocError>
     requires keys { AllPairs (λ a b. who_key a.now ≢ who_key b.now) principals.now }
+    requires listed { IsSorted text_cmp listed.now }
     requires names { IsSorted text_cmp names.now }
     ensures { IfOk result (λ nodes. AreNodes policy.now (map (λ who. who.now) principals.now)
-        names.now (map node_of nodes.items)) }
+        listed.now names.now (map node_of nodes.items)) }
 {
     let mut nodes = BTreeMap::new(alloc);
     add_principals(alloc, principals, &mut nodes)?;
-    add_scopes(alloc, policy, names, &mut nodes)?;
+    add_scopes(alloc, policy, listed, &mut nodes)?;
     add_roles(alloc, policy, names, &mut nodes)?;
     in_order(alloc, &nodes)
 }

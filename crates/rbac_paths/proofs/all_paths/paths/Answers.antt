@@ -37,28 +37,35 @@ paths_by-requires-clause-ordered c =
 pub paths_by-requires-clause-order : goal.paths_by-requires-clause-order
 paths_by-requires-clause-order c = c.in_ok-reached.ensures.order
 
+pub nodes_of-requires-clause-listed : goal.nodes_of-requires-clause-listed
+nodes_of-requires-clause-listed c = rw c.as_slice-listed.ensures.value (in_order c.in_ok-names.names.listed.items c.in_ok-names.ensures.names.listed_ascending)
+
 pub nodes_of-requires-clause-names : goal.nodes_of-requires-clause-names
-nodes_of-requires-clause-names c = rw c.as_slice-2.ensures.value (in_order c.in_ok-names.names.items c.in_ok-names.ensures.names.ascending)
+nodes_of-requires-clause-names c = rw c.as_slice-names.ensures.value (in_order c.in_ok-names.names.all.items c.in_ok-names.ensures.names.ascending)
 
 pub graph_of-requires-clause-held : goal.graph_of-requires-clause-held
 graph_of-requires-clause-held c =
     let p = c.args.policy.now in
-    let names = c.in_ok-names.names.items in
+    let listed = c.in_ok-names.names.listed.items in
+    let names = c.in_ok-names.names.all.items in
     let all = map (λ (who : Bor Who). who.now) c.as_slice.result.now in
     let ys = map node_of c.as_slice-nodes.result.now in
-    let are = subst (λ (ns : List Node). AreNodes p all names (map node_of ns)) (sym c.as_slice-nodes.ensures.value)
-    (subst (λ (ts : List Text). AreNodes p all ts (map node_of c.in_ok-nodes.nodes.items)) c.as_slice-2.ensures.value c.in_ok-nodes.ensures) in
-    held p c.in_ok-names.ensures.policy all names c.in_ok-names.ensures.names ys are
+    let are = subst (λ (ns : List Node). AreNodes p all listed names (map node_of ns)) (sym c.as_slice-nodes.ensures.value)
+    (subst (λ (ts : List Text). AreNodes p all listed ts (map node_of c.in_ok-nodes.nodes.items)) c.as_slice-names.ensures.value
+    (subst (λ (ts : List Text). AreNodes p all ts c.as_slice-names.result.now (map node_of c.in_ok-nodes.nodes.items)) c.as_slice-listed.ensures.value c.in_ok-nodes.ensures)) in
+    held p c.in_ok-names.ensures.policy all listed names c.in_ok-names.ensures.names ys are
 
 pub paths_by-requires-clause-held : goal.paths_by-requires-clause-held
 paths_by-requires-clause-held c =
     let p = c.args.policy.now in
-    let names = c.in_ok-names.names.items in
+    let listed = c.in_ok-names.names.listed.items in
+    let names = c.in_ok-names.names.all.items in
     let all = map (λ (who : Bor Who). who.now) c.as_slice.result.now in
     let ys = map node_of c.as_slice-nodes.result.now in
-    let are = subst (λ (ns : List Node). AreNodes p all names (map node_of ns)) (sym c.as_slice-nodes.ensures.value)
-    (subst (λ (ts : List Text). AreNodes p all ts (map node_of c.in_ok-nodes.nodes.items)) c.as_slice-2.ensures.value c.in_ok-nodes.ensures) in
-    held p c.in_ok-names.ensures.policy all names c.in_ok-names.ensures.names ys are
+    let are = subst (λ (ns : List Node). AreNodes p all listed names (map node_of ns)) (sym c.as_slice-nodes.ensures.value)
+    (subst (λ (ts : List Text). AreNodes p all listed ts (map node_of c.in_ok-nodes.nodes.items)) c.as_slice-names.ensures.value
+    (subst (λ (ts : List Text). AreNodes p all ts c.as_slice-names.result.now (map node_of c.in_ok-nodes.nodes.items)) c.as_slice-listed.ensures.value c.in_ok-nodes.ensures)) in
+    held p c.in_ok-names.ensures.policy all listed names c.in_ok-names.ensures.names ys are
 
 pub paths_by-requires-clause-grants : goal.paths_by-requires-clause-grants
 paths_by-requires-clause-grants c = c.in_ok-made.ensures.grants
@@ -71,31 +78,35 @@ paths_by-requires-clause-linked c =
     let p = c.args.policy.now in
     let steps = c.args.steps.now in
     let who = c.args.who.now in
-    let names = c.in_ok-names.names.items in
+    let listed = c.in_ok-names.names.listed.items in
+    let names = c.in_ok-names.names.all.items in
     let all = map (λ (who : Bor Who). who.now) c.as_slice.result.now in
     let ys = map node_of c.as_slice-nodes.result.now in
-    let are = subst (λ (ns : List Node). AreNodes p all names (map node_of ns)) (sym c.as_slice-nodes.ensures.value)
-    (subst (λ (ts : List Text). AreNodes p all ts (map node_of c.in_ok-nodes.nodes.items)) c.as_slice-2.ensures.value c.in_ok-nodes.ensures) in
+    let are = subst (λ (ns : List Node). AreNodes p all listed names (map node_of ns)) (sym c.as_slice-nodes.ensures.value)
+    (subst (λ (ts : List Text). AreNodes p all listed ts (map node_of c.in_ok-nodes.nodes.items)) c.as_slice-names.ensures.value
+    (subst (λ (ts : List Text). AreNodes p all ts c.as_slice-names.result.now (map node_of c.in_ok-nodes.nodes.items)) c.as_slice-listed.ensures.value c.in_ok-nodes.ensures)) in
     let g = c.in_ok-made.made.graph in
     let starts = c.in_ok-starts.starts.items in
     let stops = c.in_ok-reached.reached.stops.items in
     let rows : c.as_slice-rows.result.now ≡ steps = c.as_slice-rows.ensures.value ∙ c.in_ok-rows.ensures in
     let exact = subst (λ (ws : List (Bor Who)). (other : Who) → Contains (map (λ (each : Bor Who). each.now) ws) other ↔ IsOneWith c.args.principals.now who other) (sym c.as_slice.ensures.value) c.in_ok-all.ensures.exact in
     let graph = subst (λ (ss : List Step). IsGraphOf p ss ys g) rows c.in_ok-made.ensures.graph in
-    let found = subst (λ (js : List ℕ). AreStops g js stops) c.as_slice-3.ensures.value c.in_ok-reached.ensures.stops in
+    let found = subst (λ (js : List ℕ). AreStops g js stops) c.as_slice-2.ensures.value c.in_ok-reached.ensures.stops in
     subst (λ (ss : List Step). AreLinked p ss ys stops) (sym rows)
-    (linked p c.in_ok-names.ensures.policy all names c.in_ok-names.ensures.names ys are steps c.args.principals.now who exact g graph starts c.in_ok-starts.ensures stops found)
+    (linked p c.in_ok-names.ensures.policy all listed names c.in_ok-names.ensures.names ys are steps c.args.principals.now who exact g graph starts c.in_ok-starts.ensures stops found)
 
 pub returns : goal.returns
 returns c =
     let p = c.args.policy.now in
     let steps = c.args.steps.now in
     let who = c.args.who.now in
-    let names = c.in_ok-names.names.items in
+    let listed = c.in_ok-names.names.listed.items in
+    let names = c.in_ok-names.names.all.items in
     let all = map (λ (who : Bor Who). who.now) c.as_slice.result.now in
     let ys = map node_of c.as_slice-nodes.result.now in
-    let are = subst (λ (ns : List Node). AreNodes p all names (map node_of ns)) (sym c.as_slice-nodes.ensures.value)
-    (subst (λ (ts : List Text). AreNodes p all ts (map node_of c.in_ok-nodes.nodes.items)) c.as_slice-2.ensures.value c.in_ok-nodes.ensures) in
+    let are = subst (λ (ns : List Node). AreNodes p all listed names (map node_of ns)) (sym c.as_slice-nodes.ensures.value)
+    (subst (λ (ts : List Text). AreNodes p all listed ts (map node_of c.in_ok-nodes.nodes.items)) c.as_slice-names.ensures.value
+    (subst (λ (ts : List Text). AreNodes p all ts c.as_slice-names.result.now (map node_of c.in_ok-nodes.nodes.items)) c.as_slice-listed.ensures.value c.in_ok-nodes.ensures)) in
     let g = c.in_ok-made.made.graph in
     let starts = c.in_ok-starts.starts.items in
     let stops = c.in_ok-reached.reached.stops.items in
@@ -103,12 +114,12 @@ returns c =
     let rows : c.as_slice-rows.result.now ≡ steps = c.as_slice-rows.ensures.value ∙ c.in_ok-rows.ensures in
     let exact = subst (λ (ws : List (Bor Who)). (other : Who) → Contains (map (λ (each : Bor Who). each.now) ws) other ↔ IsOneWith c.args.principals.now who other) (sym c.as_slice.ensures.value) c.in_ok-all.ensures.exact in
     let graph = subst (λ (ss : List Step). IsGraphOf p ss ys g) rows c.in_ok-made.ensures.graph in
-    let found = subst (λ (js : List ℕ). AreStops g js stops) c.as_slice-3.ensures.value c.in_ok-reached.ensures.stops in
+    let found = subst (λ (js : List ℕ). AreStops g js stops) c.as_slice-2.ensures.value c.in_ok-reached.ensures.stops in
     IfOk-weaker c.paths_by.result _ _
     (λ made is. (
       all,
       exact,
-      are_paths p c.in_ok-names.ensures.policy all names c.in_ok-names.ensures.names ys are steps c.args.principals.now who exact g graph starts c.in_ok-starts.ensures stops found order c.in_ok-reached.ensures.order made.items
+      are_paths p c.in_ok-names.ensures.policy all listed names c.in_ok-names.ensures.names ys are steps c.args.principals.now who exact g graph starts c.in_ok-starts.ensures stops found order c.in_ok-reached.ensures.order made.items
           (subst (λ (ss : List Step). ArePathsAt p ss ys stops order made.items) rows is),
     ))
     c.paths_by.ensures

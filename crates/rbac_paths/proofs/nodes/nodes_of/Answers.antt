@@ -25,22 +25,24 @@ pub add_roles-requires-clause-scopes : goal.add_roles-requires-clause-scopes
 add_roles-requires-clause-scopes c =
     let p = c.args.policy.now in
     let ps = c.args.principals.now in
+    let listed = c.args.listed.now in
     let names = c.args.names.now in
     let none = c.new-nodes.result in
-    scopes_there who_is ps p names none c.add_scopes.new.nodes (none_there none c.new-nodes.ensures.empty)
-    (adds_both (IsOfThese who_is ps p names) (IsInSomeScope p names) none c.add_principals.new.nodes c.add_scopes.new.nodes c.in_ok-add_principals.ensures c.in_ok-add_scopes.ensures)
+    scopes_there who_is ps p listed names none c.add_scopes.new.nodes (none_there none c.new-nodes.ensures.empty)
+    (adds_both (IsOfThese who_is ps p listed names) (IsInSomeScope p listed) none c.add_principals.new.nodes c.add_scopes.new.nodes c.in_ok-add_principals.ensures c.in_ok-add_scopes.ensures)
 
 pub returns : goal.returns
 returns c =
     let p = c.args.policy.now in
     let ps = c.args.principals.now in
+    let listed = c.args.listed.now in
     let names = c.args.names.now in
     let none = c.new-nodes.result in
     let all = c.add_roles.new.nodes in
-    let adds = adds_same (λ y. (IsOfThese who_is ps p names y ⊎ IsInSomeScope p names y) ⊎ IsSomeBoundRole p names y) (λ y. IsListed who_is ps p names y) none all (which_nodes who_is ps p names)
-    (adds_both (λ y. IsOfThese who_is ps p names y ⊎ IsInSomeScope p names y) (IsSomeBoundRole p names) none c.add_scopes.new.nodes all
-    (adds_both (IsOfThese who_is ps p names) (IsInSomeScope p names) none c.add_principals.new.nodes c.add_scopes.new.nodes c.in_ok-add_principals.ensures c.in_ok-add_scopes.ensures)
+    let adds = adds_same (λ y. (IsOfThese who_is ps p listed names y ⊎ IsInSomeScope p listed y) ⊎ IsSomeBoundRole p names y) (λ y. IsListed who_is ps p listed names y) none all (which_nodes who_is ps p listed names)
+    (adds_both (λ y. IsOfThese who_is ps p listed names y ⊎ IsInSomeScope p listed y) (IsSomeBoundRole p names) none c.add_scopes.new.nodes all
+    (adds_both (IsOfThese who_is ps p listed names) (IsInSomeScope p listed) none c.add_principals.new.nodes c.add_scopes.new.nodes c.in_ok-add_principals.ensures c.in_ok-add_scopes.ensures)
     c.in_ok-add_roles.ensures.added) in
-    let are : AreNodes p (map who_is ps) names (map node_of (values all)) = all_nodes p c.in_ok-add_roles.ensures.policy.0 (map who_is ps) (keys_tell who_is ps c.requires.keys) none all (none_there none c.new-nodes.ensures.empty) c.in_order.ensures.ordered names adds in
-    IfOk-weaker c.in_order.result (λ list. list.items ≡ values all) (λ list. AreNodes p (map who_is ps) names (map node_of list.items))
-    (λ list is. subst (λ (xs : List Node). AreNodes p (map who_is ps) names (map node_of xs)) (sym is) are) c.in_order.ensures.items
+    let are : AreNodes p (map who_is ps) listed names (map node_of (values all)) = all_nodes p c.in_ok-add_roles.ensures.policy.0 (map who_is ps) (keys_tell who_is ps c.requires.keys) none all (none_there none c.new-nodes.ensures.empty) c.in_order.ensures.ordered listed names adds in
+    IfOk-weaker c.in_order.result (λ list. list.items ≡ values all) (λ list. AreNodes p (map who_is ps) listed names (map node_of list.items))
+    (λ list is. subst (λ (xs : List Node). AreNodes p (map who_is ps) listed names (map node_of xs)) (sym is) are) c.in_order.ensures.items
