@@ -1,5 +1,5 @@
-"""Every wrong body still fits the text that it edits, in must-fail/ and in wrong-bodies/ of each crate, and the gate tries one of
-each public function but those of NOT_YET.
+"""Every wrong body still fits the text that it edits, in must-fail/ and in wrong-bodies/ of each crate, and the gate tries one of each public
+function.
 
 An edit is a file of lines `file: PATH`, `old: TEXT` and `new: TEXT`. Each old text stands in its file exactly once,
 after the pairs before it. Proves nothing: `rt ci` tries the edits of must-fail/, of which there are at most 40, since each is a check by
@@ -18,11 +18,6 @@ from edit import TIERS, edits_of, public_functions  # noqa: E402
 
 PARTS = ('src/', 'specs/', 'proofs/')
 MOST_ALONE = 40
-# Public functions of which no wrong body is known yet that a goal refuses, at a cost that the gate can bear. Some wrong bodies of each are tried by
-# `make wrong-bodies`.
-NOT_YET = '''
-    rbac_matrix::every_rows::EveryRows::meter
-'''.split()
 
 
 def fault_of(path):
@@ -110,11 +105,7 @@ def faults():
         crate = os.path.join(TOP, 'crates', name)
         tried = functions_tried(crate)
         for function in public_functions(crate):
-            whole = '%s::%s' % (name, function)
-            if whole in NOT_YET:
-                yield whole, function in tried and 'the gate tries a wrong body of it: take it out of NOT_YET'
-            else:
-                yield whole, function not in tried and 'the gate tries no wrong body of it'
+            yield '%s::%s' % (name, function), function not in tried and 'the gate tries no wrong body of it'
 
 
 def functions_tried(crate):
