@@ -35,7 +35,7 @@ calls:
 	python3 tests/calls.py
 
 # Each wrong body, tried over the libraries that rt ci keeps on this machine; `make wrong-bodies CRATE=NAME` tries those of a crate, or of
-# several, and `make wrong-bodies CHANGED=COMMIT` those that a change since that commit can touch. The gate tries one of nearly each public function.
+# several, and `make wrong-bodies CHANGED=COMMIT` those that a change since that commit can touch. The gate tries one of each public function.
 wrong-bodies:
 	python3 tools/wrong_bodies.py $(if $(CHANGED),--changed "$(CHANGED)") $(CRATE)
 

@@ -1,5 +1,5 @@
 #!/usr/bin/env bash
-# The whole gate: each edit still fits, every proof, must-fail edit and test by `rt ci`, a wrong body of nearly each public function, over
+# The whole gate: each edit still fits, every proof, must-fail edit and test by `rt ci`, a wrong body of each public function, over
 # the libraries that `rt ci` has built, how wrong bodies are chosen and tried, what only a process can show, the hull's package by
 # itself, the kubectl plugin, completions and man page, the page in a browser, lines as tables
 # and as JSON, what make dist packs, random matrices, universes, rules, answers of why not, changes, powers and paths, bad documents,
