@@ -236,6 +236,8 @@ def binding(kind, name, **fields):
     return {'apiVersion': V1, 'kind': kind, 'metadata': {'name': name, **fields}, 'roleRef': {'kind': 'ClusterRole', 'name': 'no'}}
 
 
+FOREIGN = 'kubectl-rbacaudit: %s has the %s %s of %s, which is left out: it is not of rbac.authorization.k8s.io\n'
+
 # What a change has, and how it is counted.
 COUNTED = [
     ([POD], '0 roles, 0 bindings, 1 other object'), ([a_list('List', 'v1')], '0 roles, 0 bindings, 0 other objects'),
@@ -262,7 +264,9 @@ def counts(it):
             it.write(json.dumps(document, indent=number), 'c', '%d.json' % number)
         status, out, err = got = it.run('diff', '--export', 'prod', '--with', 'c')
         nothing = counted.startswith('0 roles, 0 bindings')
-        wanted = read('c', counted) + (EMPTY % 'c' if nothing else OVER % 'c')
+        foreign = ''.join(FOREIGN % ('c/%d.json' % number, one['kind'], one['metadata']['name'], one['apiVersion'])
+                          for number, one in enumerate(documents) if one['kind'] == 'ClusterRole' and one['apiVersion'] == 'v1')
+        wanted = read('c', counted) + foreign + (EMPTY % 'c' if nothing else OVER % 'c')
         it.checked('counted: %s' % json.dumps(documents), (status == 2, err) == (nothing, wanted) and not (nothing and out), got)
     it.write(json.dumps({**ROLE, 'apiVersion': V1 + 'alpha1'}), 'c', '0.json')
     it.expect('a bad version', ['diff', '--export', 'prod', '--with', 'c/0.json'], 2, '',

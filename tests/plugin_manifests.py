@@ -15,7 +15,7 @@ import textwrap
 
 from common import TOP, V1, skipped
 from local_kubectl import yaml
-from plugin_changes import EMPTY, GAINED, ROLE, a_list, binding, culprit, read
+from plugin_changes import EMPTY, FOREIGN, GAINED, ROLE, a_list, binding, culprit, read
 from plugin_room import OWN, PLUGIN, SHELLS, STAND_IN, document, in_each_shell, room, served
 
 def without_network():
@@ -328,7 +328,6 @@ def taken_away(it):
         'check each kind and apiVersion in them\n'), got)
 
 
-FOREIGN = 'kubectl-rbacaudit: %s has the %s %s of %s, which is left out: it is not of rbac.authorization.k8s.io\n'
 UNKNOWN = ('kubectl-rbacaudit: nobody knows the roles of these bindings, so nothing is answered: %s; give a file with the role on both sides, or '
            '--export DIR, an export of a cluster that has it; --partial leaves these bindings out\n')
 # A branch and a change of it, which takes Bob away, lets Ann watch, and moves Kim to a role of the cluster.
