@@ -386,7 +386,7 @@ def of_words():
         yield 'rbacaudit %s -An shop get ' % command, []
     yield 'rbacaudit can-i --as system:serviceaccount:shop:ci ', VERBS
     yield 'rbacaudit can-i --as=system:serviceaccount:shop:ci -q get ', []
-    yield 'rbacaudit can-i -Aqn shop --', ['--as', '--groups', '--group', '--in-namespace', '--subresource', '--why', '--help']
+    yield 'rbacaudit can-i -Aqn shop --', ['--as', '--groups', '--group', '--in-namespace', '--subresource', '--why', '--why-not', '--help']
     yield 'rbacaudit who-can -- -', []
     yield 'rbacaudit who-can --in', ['--in-namespace', '--indirect']
     yield 'rbacaudit who-can --indirect --steps e', ['exec', 'escalate']
@@ -481,7 +481,7 @@ MORE = {
 }
 OF_MORE = {
     'rbacaudit can-i --file a.json ': VERBS,
-    'rbacaudit can-i -qf a.json get pods --w': ['--why'],
+    'rbacaudit can-i -qf a.json get pods --w': ['--why', '--why-not'],
     'rbacaudit can-i --f': ['--file'],
     'rbacaudit can-i -qf a.json --f': [],
     'rbacaudit lint --of-verb ': VERBS,
