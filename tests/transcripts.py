@@ -1,9 +1,9 @@
 """What the documents show: each `console` block is run by the built program, and what follows a command is what it must print.
 
 A command begins with `$ `, and lines with `> ` right below carry it on; so what is printed never begins with these. The commands
-of a document run in order, in a copy of examples/ of its own: those of docs/RECIPES.md in cluster/, all others at the top. A
-command with sqlite3, jq or git is skipped where that isn't installed, and one with kubectl is run by a stand-in where there is none, or skipped
-where that can't read YAML; the last line but one says so.
+of a document run in order, in a copy of examples/ of its own: those of docs/RECIPES.md and docs/WIDE-MATRIX.md in cluster/, all
+others at the top. A command with sqlite3, jq or git is skipped where that isn't installed, and one with kubectl is run by a
+stand-in where there is none, or skipped where that can't read YAML; the last line but one says so.
 """
 
 import os
@@ -19,7 +19,7 @@ from local_kubectl import yaml
 from plugin_room import LOCAL_KUBECTL, PLUGIN
 
 EXAMPLES = os.path.join(TOP, 'examples')
-FOLDERS = {'RECIPES.md': 'cluster'}
+FOLDERS = {'RECIPES.md': 'cluster', 'WIDE-MATRIX.md': 'cluster'}
 # kubectl as far as documents call it: the plugin, and manifests as JSON.
 KUBECTL = '''#!/bin/sh
 case $1 in
@@ -139,9 +139,9 @@ def links_and_heads():
 
 
 def loop_of_pages():
-    """docs/RECIPES.md shows the loop of pages.sh."""
+    """docs/WIDE-MATRIX.md shows the loop of pages.sh."""
     loop = re.search(r'^after=\n.*^done\n', text_of('examples', 'cluster', 'pages.sh'), re.S | re.M)[0]
-    shows = textwrap.indent(loop, '    ') in text_of('docs', 'RECIPES.md')
+    shows = textwrap.indent(loop, '    ') in text_of('docs', 'WIDE-MATRIX.md')
     checked('the loop of pages.sh', shows)
 
 
