@@ -3,6 +3,7 @@
 
 mod build;
 mod fault;
+mod help;
 mod holder_options;
 mod matrix_options;
 mod read;

@@ -9,7 +9,7 @@ ghost use Rattle.rbac_near.specs.NearLines.{near_line};
 
 use crate::near::{Missing, Near};
 use rbac_model::{Grant, Policy};
-use rbac_terms::{Subject, Word};
+use rbac_terms::{MEMBER_PREFIX, Subject, Word};
 use rbac_text::{put_field, put_field_and_tab, put_list, put_why};
 use std::alloc::{AllocError, Global};
 
@@ -102,7 +102,7 @@ fn group_key(alloc: Global, subject: Option<&Subject>) -> Result<Word, AllocErro
 {
     match subject {
         Some(Subject::Group(name)) => {
-            let mut key = Word::from_slice(alloc, b"g:")?;
+            let mut key = Word::from_slice(alloc, MEMBER_PREFIX)?;
             key.push_slice(name.as_bytes())?;
             Ok(key)
         }
