@@ -5,12 +5,12 @@ use Rattle.rbac_terms.specs.Text.{Text}
 use Rattle.rbac_model.proofs.OwnWords.{any_from}
 use Rattle.rbac_model.specs.Policies.{PolicyView}
 use Rattle.rbac_paths.specs.Having.{HoldingView}
-use Rattle.rbac_paths.specs.Joints.{AreOverOthers, AreScoped, CountsAt, DecideOn, IsNobody, IsOverNobody, MayTakeBy, SomeMayTake, scope_at}
+use Rattle.rbac_paths.specs.Joints.{AreOverOthers, AreScoped, CountsAt, DecideOn, IsNobody, IsOverNobody, IsRole, MayTakeBy, SomeMayTake, scope_at}
 use Rattle.rbac_paths.specs.Nodes.{NodeView, Somebody, ClusterRoleIn, OwnRole, EverythingIn}
 use Rattle.rbac_paths.specs.Steps.{StepRowView, table}
 use Rattle.rbac_paths.specs.Taking.{IsOver}
 use Rattle.rbac_paths.specs.TakingOver.{HasAll, IsUntold, TakesOver, WritesRoles}
-use Rattle.rbac_paths.specs.Told.{HoldingTakes, HoldingsTake}
+use Rattle.rbac_paths.specs.Told.{HoldingTakes, HoldingsHaveAll, HoldingsTake}
 use Rattle.rbac_steps.specs.declared.steps.Step.{Step}
 use Rattle.rbac_steps.specs.declared.steps.Step.TheVariants as by
 use Rattle.rbac_paths.specs.declared.table.Counts.{Counts}
@@ -18,7 +18,8 @@ use Rattle.rbac_paths.specs.declared.table.Counts.TheVariants as counted
 use Rattle.rbac_paths.specs.declared.table.Over.{Over}
 use Rattle.rbac_paths.specs.declared.table.Over.TheVariants as over
 use Rattle.rbac_paths.proofs.Closed.{is_kept}
-use Rattle.rbac_paths.proofs.Others.{counts_there, matches_step, over_nobody}
+use Rattle.rbac_paths.proofs.Others.{about_node, counts_there, matches_step, over_nobody}
+use Rattle.rbac_paths.proofs.Untold.{has_all}
 
 -- a row that takes over roles or everything is a row of `bind` or `escalate`, or takes over
 -- everything in the whole cluster only: the table has no other such row
@@ -91,6 +92,27 @@ untold p steps x (OwnRole role) nobody other all = inl all
 untold p steps x (EverythingIn None) nobody other all = absurd (other refl)
 untold p steps x (EverythingIn (Some namespace)) nobody other all = all
 
+-- a role is one of the other nodes, and isn't everything
+is_nobody : (y : NodeView) → IsRole y → IsNobody y
+is_nobody (Somebody who) role = elim role [ ]
+is_nobody (ClusterRoleIn role scope) is = tt
+is_nobody (OwnRole role) is = tt
+is_nobody (EverythingIn scope) role = elim role [ ]
+
+isnt_all : (y : NodeView) → IsRole y → y ≡ EverythingIn None → ⊥
+isnt_all (Somebody who) role e = elim role [ ]
+isnt_all (ClusterRoleIn role scope) is e = cc
+isnt_all (OwnRole role) is e = cc
+isnt_all (EverythingIn scope) role e = elim role [ ]
+
+-- a role in a scope where these steps take over everything is left out
+in_all : (p : PolicyView) (steps : List Step) (x y : NodeView) → IsRole y → HasAll p steps x (scope_at y) → IsUntold p steps x y
+in_all p steps x (Somebody who) role all = elim role [ ]
+in_all p steps x (ClusterRoleIn role None) is all = all
+in_all p steps x (ClusterRoleIn role (Some namespace)) is all = inr (inl all)
+in_all p steps x (OwnRole role) is all = inr all
+in_all p steps x (EverythingIn scope) role all = elim role [ ]
+
 module _ (p : PolicyView) (steps : List Step) (x : NodeView) (hs : List HoldingView) (decide : DecideOn p steps x hs IsNobody) where
   -- such a node is taken over by `bind` or `escalate`, in a scope where a holding counts whose rule
   -- matches such a row
@@ -124,3 +146,7 @@ module _ (p : PolicyView) (steps : List Step) (x : NodeView) (hs : List HoldingV
         | inr escalate ↦ subst (λ (s : Step). Contains (by.Bind ∷ by.Escalate ∷ []) s) (sym escalate) (1, omega arith, refl)
       ] in
       any_from (CountsAt (scope_at y)) few h ((are h).1 (w.1.1, any_from (MayTakeBy h.rule) (by.Bind ∷ by.Escalate ∷ []) t.0 among w.1.2)) w.1.3
+
+  -- roles in a scope where these steps take over everything are left out
+  pub included : (y : NodeView) → IsRole y → HoldingsHaveAll steps hs (scope_at y) → ¬ TakesOver p steps x y
+  included y role all t = t.1.told (by_writing y (is_nobody y role) (isnt_all y role) t).0 (in_all p steps x y role (has_all p x hs steps y (about_node p steps x hs decide y (is_nobody y role)) (scope_at y) all))

@@ -18,7 +18,8 @@ BindsNamed rule name = Any (λ row. (row.step ≡ Bind) × MatchesRow row rule) 
 
 -- some rule that is written in a role has the property
 abbrev pub SomeRule : (Rule → Type 0) → Held → Type 0
-SomeRule Is h = Any (λ role. Any Is role.rules) h.roles ⊎ Any (λ role. Any Is role.rules) h.cluster_roles
+SomeRule Is h = Any (λ role. Any Is role.rules) h.roles
+    ⊎ Any (λ role. Any Is role.rules) h.cluster_roles
 
 -- the rule lets one bind roles of this kind, whatever their names
 abbrev pub BindsAny : Text → Rule → Type 0

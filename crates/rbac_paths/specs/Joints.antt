@@ -1,7 +1,8 @@
 -- How the graph of nodes is joined: users and groups by words, and the other nodes one by one. The
 -- other nodes are roles, and everything in a scope.
-use Rattle.std.specs.Prelude.{◌≡◌, ◌↔◌, ◌⊎◌, ℕ, ◌<◌, List, [], ◌∷◌, Option, None, Some, All, Any, Contains, length}
-use Rattle.std.specs.Prelude.{slice_get, slice_index_or}
+use Rattle.std.specs.Prelude.{◌≡◌, ◌↔◌, ◌⊎◌, ℕ, ◌<◌, List, [], ◌∷◌, Option, None, Some, All, Any}
+use Rattle.std.specs.Prelude.{Contains, IsTrue, length, slice_get, slice_index_or}
+use Rattle.std.specs.Option.{option_copied}
 use Rattle.rbac_terms.specs.Text.{Text}
 use Rattle.rbac_terms.specs.Principals.{Who}
 use Rattle.rbac_terms.specs.declared.matching.Rule.{Rule}
@@ -15,11 +16,12 @@ use Rattle.rbac_paths.specs.SharedWords.{AreHadBy}
 use Rattle.rbac_paths.specs.Steps.{StepRowView, table}
 use Rattle.rbac_paths.specs.Taking.{CanTakeOver, scope_namespace}
 use Rattle.rbac_paths.specs.TakingOver.{TakesOver}
-use Rattle.rbac_paths.specs.Told.{HoldingsTake, grant_holding}
+use Rattle.rbac_paths.specs.Told.{HoldingsHaveAll, HoldingsTake, grant_holding}
 use Rattle.rbac_paths.specs.Tracing.{IsAt}
 use Rattle.rbac_steps.specs.declared.steps.Step.{Step}
 use Rattle.rbac_paths.specs.declared.table.Over.{Over}
 use Rattle.rbac_paths.specs.declared.table.Over.TheVariants as over
+use Rattle.rbac_paths.specs.declared.other_nodes.Seen.{Seen}
 
 -- x takes over a user or a group exactly if x takes a word by which that can be had
 abbrev pub TakesByWords : PolicyView → List Step → NodeView → (Text → Type 0) → Type 0
@@ -32,6 +34,19 @@ IsNobody (Somebody who) = ⊥
 IsNobody (ClusterRoleIn role scope) = Unit {0}
 IsNobody (OwnRole role) = Unit {0}
 IsNobody (EverythingIn scope) = Unit {0}
+
+-- a role
+abbrev pub IsRole : NodeView → Type 0
+IsRole (Somebody who) = ⊥
+IsRole (ClusterRoleIn role scope) = Unit {0}
+IsRole (OwnRole role) = Unit {0}
+IsRole (EverythingIn scope) = ⊥
+
+-- what was seen of a scope holds of these holdings: if they have everything, they can take it over
+-- by `bind` or `escalate`
+abbrev pub SeesAll : List Step → List HoldingView → Seen → Type 0
+SeesAll steps hs seen = IsTrue seen.has_all
+    → HoldingsHaveAll steps hs (option_copied seen.scope)
 
 -- exactly the places of the other nodes in the list
 abbrev pub AreOtherPlaces : List NodeView → List ℕ → Type 0

@@ -8,8 +8,8 @@ use Rattle.rbac_terms.specs.declared.matching.Rule.{Rule}
 use Rattle.rbac_steps.specs.declared.steps.Step.{Step}
 use Rattle.rbac_steps.specs.declared.steps.Step.TheVariants.{Impersonate, Token, Run, Exec}
 use Rattle.rbac_steps.specs.declared.steps.Step.TheVariants.{Secrets, Nodes, Bind, Escalate}
-use Rattle.rbac_steps.specs.declared.steps.Step.TheVariants.{Certificates, Webhooks, ApiServices, Bootstrap}
-use Rattle.rbac_steps.specs.declared.steps.Step.TheVariants.{Volumes, Namespaces}
+use Rattle.rbac_steps.specs.declared.steps.Step.TheVariants.{Certificates, Webhooks, ApiServices}
+use Rattle.rbac_steps.specs.declared.steps.Step.TheVariants.{Bootstrap, Volumes, Namespaces}
 use Rattle.rbac_paths.specs.declared.table.Names.{Names}
 use Rattle.rbac_paths.specs.declared.table.Names.TheVariants as names
 use Rattle.rbac_paths.specs.declared.table.Counts.{Counts}

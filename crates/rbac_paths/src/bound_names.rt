@@ -9,14 +9,15 @@ ghost use Rattle.rbac_terms.specs.Targets.{Resource};
 ghost use Rattle.std.specs.List.Sorted.{IsStrictlySortedBy};
 ghost use Rattle.rbac_terms.specs.Text.{Text, text_cmp};
 ghost use Rattle.rbac_model.specs.Policies.{IsPolicy};
-ghost use Rattle.rbac_paths.specs.BoundNames.{AreBoundNames, BindsEach, BindsEachRole, BindsNamed, IsBoundName};
-ghost use Rattle.rbac_paths.specs.BoundNames.{SomeRule};
+ghost use Rattle.rbac_paths.specs.BoundNames.{AreBoundNames, BindsEach, BindsEachRole};
+ghost use Rattle.rbac_paths.specs.BoundNames.{BindsNamed, IsBoundName, SomeRule};
 ghost use Rattle.rbac_paths.specs.Rows.{AreOfStep, MatchesRow};
 ghost use Rattle.rbac_paths.specs.SharedWords.{AddsWhere};
 ghost use Rattle.rbac_paths.specs.Steps.{table};
 ghost use Rattle.rbac_steps.specs.declared.steps.Step.TheVariants.{Bind};
 
 use crate::rows::{WordRow, has_name, rows_of};
+use crate::table::RBAC;
 use rbac_model::Policy;
 use rbac_steps::Step;
 use rbac_terms::{ClusterRole, Role, Rule, Word, group_matches, resource_matches, verb_matches};
@@ -41,7 +42,7 @@ pub(crate) fn bound_names(alloc: Global, policy: &Policy) -> Result<BoundNames, 
 {
     let listed = names_in_rules(alloc, policy)?;
     let listed = in_order(listed);
-    let all = all_bound(alloc, policy)?;
+    let all = all_bound(alloc, policy, listed.as_slice())?;
     let all = in_order(all);
     Ok(BoundNames { listed, all })
 }
@@ -57,14 +58,16 @@ fn in_order(names: Vec<Word>) -> Vec<Word>
     sorted
 }
 
-// The object names of all rules of this policy that let one bind roles; and the names of all Roles,
-// if a rule lets one bind each Role. In any order and with repeats.
-fn all_bound(alloc: Global, policy: &Policy) -> Result<Vec<Word>, AllocError>
-    ensures names { IfOk result (λ names. (name : Text)
+// The listed names, which are the object names of all rules of this policy that let one bind roles;
+// and the names of all Roles, if a rule lets one bind each Role. In any order and with repeats.
+fn all_bound(alloc: Global, policy: &Policy, listed: &[Word]) -> Result<Vec<Word>, AllocError>
+    requires { (name : Text)
+        → Contains listed.now name ↔ SomeRule (λ rule. BindsNamed rule name) policy.now.held }
+    ensures { IfOk result (λ names. (name : Text)
         → Contains names.items name ↔ IsBoundName policy.now.held name) }
-    ensures policy { OnOk result (IsPolicy policy.now) }
 {
-    let mut names = names_in_rules(alloc, policy)?;
+    let mut names = Vec::new(alloc);
+    names.extend_with_clones(listed)?;
     if some_binds_each_role(alloc, policy)? {
         add_role_names(alloc, policy.objects().roles(), &mut names)?;
     }
@@ -113,7 +116,7 @@ fn some_binds_each_role(alloc: Global, policy: &Policy) -> Result<bool, AllocErr
     ensures { IfOk result (λ some. IsTrue some ↔ SomeRule BindsEachRole policy.now.held) }
 {
     let verb = Word::from_slice(alloc, BIND)?;
-    let group = Word::from_slice(alloc, GROUP)?;
+    let group = Word::from_slice(alloc, RBAC.as_bytes())?;
     let roles = Word::from_slice(alloc, ROLES)?;
     let cluster_roles = Word::from_slice(alloc, CLUSTER_ROLES)?;
     let bind = BindWords {
@@ -151,7 +154,8 @@ fn some_cluster_role_binds(roles: &[ClusterRole], bind: BindWords<'_>) -> bool
         .any(|role| some_binds(bind, role.rules.as_slice()))
 }
 
-// The words of requests to bind: the verb, the API group, and the resources Roles and cluster roles.
+// The words of requests to bind: the verb, the API group, and the resources Roles and cluster
+// roles.
 #[derive(Clone, Copy)]
 struct BindWords<'a> {
     verb: &'a Word,
@@ -186,10 +190,8 @@ fn binds_any(bind: BindWords<'_>, kind: &Word, rule: &Rule) -> bool
         && has_name(rule, b"")
 }
 
-// The verb of requests to bind, the API group of roles, and their resources.
+// The verb of requests to bind, and the resources Roles and cluster roles.
 const BIND: &[u8] = b"bind";
-
-const GROUP: &[u8] = b"rbac.authorization.k8s.io";
 
 const ROLES: &[u8] = b"roles";
 

@@ -6,10 +6,11 @@ ghost use Rattle.std.specs.Prelude.{None, OnOk, length, map, ℕ};
 ghost use Rattle.std.specs.Option.{option_copied};
 ghost use Rattle.rbac_model.specs.Policies.{PolicyView};
 ghost use Rattle.rbac_ways.specs.Joining.{HasUnder};
-ghost use Rattle.rbac_paths.specs.Joints.{AreAmongOthers, AreAskedPlaces, AreOtherPlaces, AreOthers};
-ghost use Rattle.rbac_paths.specs.Joints.{AreOthersAt, AreOverOthers, AreScopeWords, AreScoped};
-ghost use Rattle.rbac_paths.specs.Joints.{CountsAt, DecideOn, IsNobody, IsOverOthersAt, OthersView};
-ghost use Rattle.rbac_paths.specs.Joints.{SomeMayTake, scope_at, scope_words};
+ghost use Rattle.rbac_paths.specs.Joints.{AreAmongOthers, AreAskedPlaces, AreOtherPlaces};
+ghost use Rattle.rbac_paths.specs.Joints.{AreOthers, AreOthersAt, AreOverOthers, AreScopeWords};
+ghost use Rattle.rbac_paths.specs.Joints.{AreScoped, CountsAt, DecideOn, IsNobody, IsOverOthersAt};
+ghost use Rattle.rbac_paths.specs.Joints.{IsRole, OthersView, SeesAll, SomeMayTake, scope_at};
+ghost use Rattle.rbac_paths.specs.Joints.{scope_words};
 ghost use Rattle.rbac_paths.specs.Nodes.{NodeView, node_of};
 ghost use Rattle.rbac_paths.specs.SharedWords.{AddsWhere};
 ghost use Rattle.rbac_paths.specs.Takeovers.{HaveTakeovers};
@@ -329,12 +330,77 @@ fn others_among(
         (λ js. AreOthersAt p steps.now (node_of from.entry) (map node_of nodes.now) places.now js) }
 {
     let mut taken = Vec::new(alloc);
+    let mut seen = Seen {
+        scope: None,
+        has_all: false,
+    };
     for place in places {
-        if takes_nobody(steps, holdings, from, nodes[*place]) {
+        let to = nodes[*place];
+        seen = seen_for(steps, holdings, seen, to);
+        if takes_other(steps, holdings, seen, from, to) {
             taken.push(*place)?;
         }
     }
     Ok(Items::from_vec(taken))
+}
+
+// A scope; and if `has_all`, some holdings can take over everything there by `bind` or `escalate`,
+// which then leave out each role there.
+#[derive(Clone, Copy)]
+struct Seen<'n> {
+    scope: Option<&'n Word>,
+    has_all: bool,
+}
+
+// What was seen of the scope of the node `to`. Most Roles of a list are in the same namespace as
+// the one before, so these holdings are asked once about each namespace, and not about each Role.
+fn seen_for<'n>(
+    steps: &[StepRows],
+    holdings: &[Holding<'_>],
+    seen: Seen<'n>,
+    to: Node<'n>,
+) -> Seen<'n>
+    requires { SeesAll steps.now holdings.now seen }
+    ensures scope { option_copied result.scope ≡ scope_at (node_of to.entry) }
+    ensures seen { SeesAll steps.now holdings.now result }
+{
+    let scope = scope_at(to);
+    if scope == seen.scope {
+        return seen;
+    }
+    Seen {
+        scope,
+        has_all: has_all(steps, holdings, scope),
+    }
+}
+
+// Whether the node `from` takes over the other node `to`, whose scope was seen. These holdings are
+// enough to decide that.
+fn takes_other(
+    steps: &[StepRows],
+    holdings: &[Holding<'_>],
+    seen: Seen<'_>,
+    from: Node<'_>,
+    to: Node<'_>,
+) -> bool
+    requires scope { option_copied seen.scope ≡ scope_at (node_of to) }
+    requires seen { SeesAll steps.now holdings.now seen }
+    ensures { (p : PolicyView)
+        → DecideOn p steps.now (node_of from.entry) holdings.now IsNobody
+        → IsNobody (node_of to.entry)
+        → IsTrue result ↔ TakesOver p steps.now (node_of from.entry) (node_of to.entry) }
+{
+    if seen.has_all && is_role(to) {
+        return false;
+    }
+    takes_nobody(steps, holdings, from, to)
+}
+
+// Whether a node is a role.
+fn is_role(node: Node<'_>) -> bool
+    ensures { IsTrue result ↔ IsRole (node_of node.entry) }
+{
+    matches!(node, Node::ClusterRole(_, _) | Node::Role(_))
 }
 
 // Whether the node `from` takes over the other node `to`. These holdings are enough to decide that.

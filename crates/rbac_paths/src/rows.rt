@@ -7,11 +7,12 @@ ghost use Rattle.rbac_terms.specs.Matching.{NameMatches, VerbOk};
 ghost use Rattle.rbac_terms.specs.Targets.{Resource};
 ghost use Rattle.rbac_terms.specs.Text.{Text};
 ghost use Rattle.rbac_model.specs.Policies.{Live};
-ghost use Rattle.rbac_paths.specs.Asked.{AllowsAsked, AllowsAskedRow, AllowsRowFor, Asks, HasRowNameFor};
-ghost use Rattle.rbac_paths.specs.Asked.{RowAsks};
+ghost use Rattle.rbac_paths.specs.Asked.{AllowsAsked, AllowsAskedRow, AllowsRowFor, Asks};
+ghost use Rattle.rbac_paths.specs.Asked.{HasRowNameFor, RowAsks};
 ghost use Rattle.rbac_paths.specs.Joints.{MatchesOverOthers};
 ghost use Rattle.rbac_paths.specs.Nodes.{node_of};
-ghost use Rattle.rbac_paths.specs.Rows.{AddsRow, AreOfStep, HasRowName, HasRowResource, MatchesRow, row_view};
+ghost use Rattle.rbac_paths.specs.Rows.{AddsRow, AreOfStep, HasRowName, HasRowResource};
+ghost use Rattle.rbac_paths.specs.Rows.{MatchesRow, row_view};
 ghost use Rattle.rbac_paths.specs.Steps.{AllowsRow, CountsIn, CountsThere, asked_in};
 ghost use Rattle.rbac_paths.specs.Steps.{kube_system, table};
 ghost use Rattle.rbac_paths.specs.Takeovers.{takeover_of};
@@ -245,11 +246,12 @@ impl WordRow {
     }
 
     // Whether the rule matches a verb, the API group and a resource of the row. The group is
-    // compared first: most rules have one group, and it isn't the row's.
+    // compared first: most rules have one group, and it isn't the row's. Verbs are compared last:
+    // a rule has more of them than resources, and the row's are often among them.
     pub(crate) fn matches(&self, rule: &Rule) -> bool
         ensures { IsTrue result ↔ MatchesRow self.now rule.now }
     {
-        group_matches(rule, &self.group) && self.has_verb_of(rule) && self.has_resource_of(rule)
+        group_matches(rule, &self.group) && self.has_resource_of(rule) && self.has_verb_of(rule)
     }
 
     // Whether the row takes over roles or everything, and the rule matches it.

@@ -1,17 +1,23 @@
-use Rattle.std.proofs.Common.{◌≡◌, ◌∙◌, Any, List, ap, subst, sym}
+use Rattle.std.proofs.Common.{◌≡◌, ◌∙◌, ◌++◌, ◌↔◌, Any, Contains, List, ap, subst, sym}
 use Rattle.std.proofs.lemmas.Bool.{false≢true}
+use Rattle.std.proofs.lemmas.List.Elements.{same_from_all_zip}
+use Rattle.rbac_terms.specs.Text.{Text}
 use Rattle.rbac_terms.specs.declared.granting.Role.{Role}
 use Rattle.rbac_model.specs.Policies.{Held}
+use Rattle.rbac_paths.specs.BoundNames.{BindsNamed, SomeRule}
 use Rattle.rbac_paths.specs.SharedWords.{AddsWhere}
 use Rattle.rbac_paths.proofs.BoundNames.{with_roles, without_roles}
 use Rattle.rbac_paths.proofs.bound_names.all_bound.Goals as goal
 use Rattle.rbac_paths.proofs.bound_names.all_bound.Goals.{then-branch+in_ok-add_role_names, else-branch}
 
-pub returns-clause-names : goal.returns-clause-names
-returns-clause-names c =
+pub returns : goal.returns
+returns c =
     let h = c.args.policy.now.held in
-    let names = c.in_ok-names.names.items in
-    let in_rules = c.in_ok-names.ensures.names in
+    let listed = c.args.listed.now in
+    let names = c.extend_with_clones.new.self.items in
+    let added = c.in_ok-extend_with_clones.ensures.items in
+    let same : names ≡ listed = added.1 ∙ ap (λ (ws : List Text). ws ++ added.0) c.new-names.ensures.items ∙ same_from_all_zip _ listed added.0 added.2 (λ x y same. same) in
+    let in_rules = subst (λ (ws : List Text). (name : Text) → Contains ws name ↔ SomeRule (λ rule. BindsNamed rule name) h) (sym same) c.requires in
     elim c.if-branch.branch [
       | then-branch+in_ok-add_role_names w ↦
           (let new = w.add_role_names.new.names.items in

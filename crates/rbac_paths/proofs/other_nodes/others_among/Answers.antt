@@ -8,10 +8,13 @@ use Rattle.rbac_paths.proofs.Mapped.{mapped_at}
 use Rattle.rbac_paths.proofs.Others.{others_more, others_none, others_same}
 use Rattle.rbac_paths.proofs.Tracing.{is_here}
 use Rattle.rbac_paths.proofs.other_nodes.others_among.Goals as goal
-use Rattle.rbac_paths.proofs.other_nodes.others_among.Goals.{then-takes_nobody+in_ok-push, else-takes_nobody}
+use Rattle.rbac_paths.proofs.other_nodes.others_among.Goals.{then-takes_other+in_ok-push, else-takes_other}
 
 pub loop-place-init : goal.loop-place-init
-loop-place-init c p decide = others_none p c.args.steps.now (node_of c.args.from) (map node_of c.args.nodes.now) c.new-taken.result.items c.new-taken.ensures.items
+loop-place-init c = (
+  λ p decide. others_none p c.args.steps.now (node_of c.args.from) (map node_of c.args.nodes.now) c.new-taken.result.items c.new-taken.ensures.items,
+  λ all. absurd (false≢true all),
+)
 
 pub offset_bounds-nodes-place : goal.offset_bounds-nodes-place
 offset_bounds-nodes-place c =
@@ -46,12 +49,16 @@ loop-place-preserved c =
     let within : place < length c.args.nodes.now = (let low = slice_get_within ys place is.0 is.1 in let len = length-map c.args.nodes.now node_of in omega (arith, low, len)) in
     let at : slice_get ys place ≡ Some y = mapped_at node_of c.args.nodes.now place c.index-nodes-place.result within c.index-nodes-place.is in
     let nobody = is_here IsNobody ys place y at is in
-    elim c.if-takes_nobody.branch [
-      | then-takes_nobody+in_ok-push w ↦ rw (w.taken-is, w.in_ok-push.ensures.items, take_more places i 0 c.loop-place-test.true)
-          (λ p decide. others_more p steps x ys (take i places) place y at js (c.loop-place.invariant p decide) nobody ((c.takes_nobody.ensures p decide nobody).0 w.if-takes_nobody.true))
-      | else-takes_nobody w ↦ rw (w.taken-is, take_more places i 0 c.loop-place-test.true)
-          (λ p decide. others_same p steps x ys (take i places) place y at js (c.loop-place.invariant p decide)
-          (λ t. false≢true (sym w.if-takes_nobody.false ∙ (c.takes_nobody.ensures p decide nobody).1 t)))
+    elim c.if-takes_other.branch [
+      | then-takes_other+in_ok-push w ↦ rw (w.taken-is, w.in_ok-push.ensures.items, take_more places i 0 c.loop-place-test.true) (
+        λ p decide. others_more p steps x ys (take i places) place y at js (c.loop-place.invariant.0 p decide) nobody ((c.takes_other.ensures p decide nobody).0 w.if-takes_other.true),
+        c.seen_for-seen.ensures.seen,
+      )
+      | else-takes_other w ↦ rw (w.taken-is, take_more places i 0 c.loop-place-test.true) (
+        λ p decide. others_same p steps x ys (take i places) place y at js (c.loop-place.invariant.0 p decide)
+            (λ t. false≢true (sym w.if-takes_other.false ∙ (c.takes_other.ensures p decide nobody).1 t)),
+        c.seen_for-seen.ensures.seen,
+      )
     ]
 
 pub returns : goal.returns
@@ -62,4 +69,4 @@ returns c p decide =
     let places = c.args.places.now in
     let i = c.loop-place.place-index in
     subst (AreOthersAt p steps x ys places) (sym c.from_vec.ensures)
-    (subst (λ (js : List ℕ). AreOthersAt p steps x ys js c.loop-place.taken.items) (take_all i places (let end = c.loop-place-test.false in omega (arith, end))) (c.loop-place.invariant p decide))
+    (subst (λ (js : List ℕ). AreOthersAt p steps x ys js c.loop-place.taken.items) (take_all i places (let end = c.loop-place-test.false in omega (arith, end))) (c.loop-place.invariant.0 p decide))
