@@ -33,7 +33,8 @@ for edit in sorted(glob.glob('crates/*/must-fail/*.edit')):
 '''
 # The prover finds a goal open in each function that has the word WRONG, finds an answer stale for the word STALE and a goal gone for GONE, can't
 # read a crate with the word SPOILED, and looks only at the functions that it is asked about; the proofs of all others have to be open, and their
-# bodies gone. A body that is put in front of the right one has no answers.
+# bodies gone. A body that is put in front of the right one has no answers but the edit's own. The search of an answer finds nothing if it says so,
+# or if the body has the word MISSED.
 PROVER = '''#!/usr/bin/env python3
 import glob, os, re, sys
 asked = {word for at, word in enumerate(sys.argv) if sys.argv[at - 1] == '--only'}
@@ -50,7 +51,11 @@ for file, text in texts.items():
             assert 'unreachable!()' in body and '%s_spec = ?' % name in open(proofs + '/Proof.antt').read()
             assert not os.path.exists(proofs + '/Answers.antt')
             continue
-        assert name + '_itself' not in text or not os.path.exists(proofs + '/Answers.antt')
+        answers = open(proofs + '/Answers.antt').read() if os.path.exists(proofs + '/Answers.antt') else ''
+        assert name + '_itself' not in text or 'answer\\n' not in answers
+        assert 'search rules' not in answers or re.search('{rules}.*as goal.*pub returns : goal.returns\\nreturns c = ', answers, re.S)
+        if 'search nothing' in answers or 'MISSED' in body and 'search' in answers:
+            body += 'UNFOUND'
         for word, fault in (('STALE', '`returns`: as printed, the two types differ only where one has `1`'),
                             ('GONE', '`goal`: module `Goals` has no `returns`'), ('UNFOUND', '`returns`: `search`: no proof of `1`')):
             if word in body:
@@ -178,5 +183,37 @@ def kinds():
         checked('the gate takes none that is undecided', 'FAIL low/stale_answer.edit' in said and '1 passed, 1 failed' in said, said)
 
 
+def answers():
+    """An edit may have answers of its own, which have to prove the right body."""
+    answer = 'answer: a::one: returns c = search '
+    in_front = edit_of('fn one() {', 'fn one() { MISSED } fn one_itself() {')
+    edits = {'answered': edit_of('first', 'MISSED') + answer + 'rules\n', 'not_answered': edit_of('first', 'MISSED'),
+             'answered_in_front': in_front + answer + 'rules\n', 'right_not_proved': edit_of('first', 'MISSED') + answer + 'nothing\n'}
+    files = {it: FILES[it] for it in FILES if not it.endswith('.edit')}
+    files.update({'crates/low/wrong-bodies/%s.edit' % name: text for name, text in edits.items()})
+    with repository(files) as folder:
+        said, found = tried(folder)
+        wanted = {'low/' + name: 'NOT' if name == 'not_answered' else 'refused' for name in edits}
+        checked('a search of an answer of its own refuses an edit', found == wanted, said)
+        said, found = tried(folder, sys.executable, 'tools/wrong_bodies.py', '--right')
+        checked('the right body has to be proved with the answers', '2 passed, 1 failed' in said and
+                re.findall('FAIL (.*?):', said) == ['low/right_not_proved.edit'], said)
+
+
+def logged():
+    """With --log each edit is tried once, in however many runs, and what each came to is listed and counted."""
+    with repository(FILES) as folder:
+        log = os.path.join(folder, 'log')
+        asked = sys.executable, 'tools/wrong_bodies.py', '--jobs', '1', '--log', log
+        first, second, third = tried(folder, *asked, 'low'), tried(folder, *asked), tried(folder, *asked)
+        told = [sorted(it[1]) for it in (first, second, third)]
+        checked('what the log has is not tried again', told == [['low/of_a', 'low/of_both'], ['high/of_high'], []], first[0] + second[0] + third[0])
+        wanted = ['%s.edit: refused, as it must be\n' % it for it in ('high/of_high', 'low/of_a', 'low/of_both')]
+        with open(log, encoding='utf-8') as file:
+            checked('the log has a line of each', sorted(file) == wanted)
+        said = 'high: 1 edits: 1 refused\nlow: 2 edits: 2 refused\n'
+        checked('kinds are counted by crate', said in third[0] and '3 passed, 0 failed' in third[0], third[0])
+
+
 if __name__ == '__main__':
-    sys.exit(counted(chosen, kinds))
+    sys.exit(counted(chosen, kinds, answers, logged))

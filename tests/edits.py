@@ -3,8 +3,8 @@ function.
 
 An edit is a file of lines `file: PATH`, `old: TEXT` and `new: TEXT`. Each old text stands in its file exactly once,
 after the pairs before it. Proves nothing: `rt ci` tries the edits of must-fail/, of which there are at most 40, since each is a check by
-itself; `tools/wrong_bodies.py --chosen` tries those of wrong-bodies/ with the line `# tried by the gate`, and `make wrong-bodies` all.
-The last line is `N passed, M failed`.
+itself; `tools/wrong_bodies.py --chosen` tries those of wrong-bodies/ with the line `# tried by the gate`, those of a crate by one check,
+and `make wrong-bodies` all. The last line is `N passed, M failed`.
 """
 
 import os
@@ -14,7 +14,8 @@ import sys
 from common import TOP
 
 sys.path.insert(0, os.path.join(TOP, 'tools'))
-from edit import TIERS, edits_of, public_functions  # noqa: E402
+from edit import ANSWER, TIERS, edits_of, public_functions  # noqa: E402
+from together import MOST, batches  # noqa: E402
 
 PARTS = ('src/', 'specs/', 'proofs/')
 MOST_ALONE = 40
@@ -31,7 +32,10 @@ def fault_of(path):
     if any(os.path.isfile(os.path.join(crate, other, name)) for other in TIERS if other != tier):
         return 'both folders have an edit of this name'
     with open(path, encoding='utf-8') as file:
-        return fault_in(file.read(), crate)
+        text = file.read()
+    if any(line.startswith('answer:') and not ANSWER.fullmatch(line) for line in text.split('\n')):
+        return "an 'answer:' line has no function, goal and term"
+    return fault_in(text, crate)
 
 
 def fault_in(text, crate):
@@ -103,19 +107,25 @@ def faults():
     yield 'must-fail/', alone > MOST_ALONE and 'it has %d edits in all, and at most %d are wanted' % (alone, MOST_ALONE)
     for name in sorted(os.listdir(os.path.join(TOP, 'crates'))):
         crate = os.path.join(TOP, 'crates', name)
-        tried = functions_tried(crate)
+        texts, tried = texts_of(crate), [edit for edit in edits_of(crate) if edit.is_tried_by_the_gate()]
+        functions = {function for edit in tried for function in edit.functions_in(texts)}
         for function in public_functions(crate):
-            yield '%s::%s' % (name, function), function not in tried and 'the gate tries no wrong body of it'
+            yield '%s::%s' % (name, function), function not in functions and 'the gate tries no wrong body of it'
+        together = [edit for edit in tried if edit.is_marked]
+        most = max(MOST, len(together))
+        apart = [edit.name for batch in [*batches(together, texts, most)][1:] for edit, _ in batch]
+        yield name, apart and 'one check more is taken by %s: another edit changes the same function, or what it looks for' % ', '.join(apart)
 
 
-def functions_tried(crate):
-    """The functions of a crate of which every gate tries a wrong body."""
+def texts_of(crate):
+    """The texts of a crate that an edit of the gate can change, by file."""
     texts = {}
-    for name in os.listdir(os.path.join(crate, 'src')):
-        with open(os.path.join(crate, 'src', name), encoding='utf-8') as file:
-            texts['src/' + name] = file.read()
-    tried = [edit for edit in edits_of(crate) if edit.is_tried_by_the_gate()]
-    return {function for edit in tried for function in edit.functions_in(texts)}
+    for part in ('src', 'proofs'):
+        for at, _, names in os.walk(os.path.join(crate, part)):
+            for name in names:
+                with open(os.path.join(at, name), encoding='utf-8') as file:
+                    texts[os.path.relpath(os.path.join(at, name), crate)] = file.read()
+    return texts
 
 
 def main():

@@ -2,6 +2,10 @@
 
 An edit is a file of lines `file: PATH`, `old: TEXT` and `new: TEXT`. Each old text stands in its file exactly once, after the pairs
 before it. A line MARK says that the gate tries the edit.
+
+A line `answer: FUNCTION: GOAL ARGUMENTS = TERM` has a goal of the function answered by this term, as in a proof file. A goal without an
+answer is searched by all that the prover has, and once more to print it, which is most of what an edit costs; a search that has to fail
+is over soon. The term has to prove the goal of the right body: wrong_bodies.py --right tries that.
 """
 
 import os
@@ -13,16 +17,19 @@ MARK = '# tried by the gate'
 FUNCTION = re.compile(r'( *)(pub )?(?:pub\([a-z]+\) )?(?:const |unsafe )*fn (\w+)')
 IMPL = re.compile(r'impl\b')
 NAME = re.compile(r'\bfn (\w+)')
+ANSWER = re.compile(r'answer: (\S+): (\S+)( .*=.*)')
 
 
 class Edit:
     """An edit of a crate: pairs of texts, each with the file that has it."""
 
+    is_right = False
+
     def __init__(self, path):
         self.path = path
         self.crate = os.path.basename(os.path.dirname(os.path.dirname(path)))
         self.name = '%s/%s' % (self.crate, os.path.basename(path))
-        self.pairs = []
+        self.pairs, self.answers = [], []
         file = old = None
         with open(path, encoding='utf-8') as edit:
             lines = edit.read().split('\n')
@@ -34,6 +41,9 @@ class Edit:
                 old = line[len('old: '):]
             elif line.startswith('new:'):
                 self.pairs.append((file, old, line[len('new:'):].removeprefix(' ')))
+            elif ANSWER.match(line):
+                function, goal, term = ANSWER.match(line).groups()
+                self.answers.append((function, (goal, term)))
 
     def is_tried_by_the_gate(self):
         return self.is_marked or os.path.basename(os.path.dirname(self.path)) == TIERS[0]
@@ -67,6 +77,55 @@ class Edit:
                 text = texts[file]
                 moved[path_of(file, text.split('\n'), text[:text.find(old)].count('\n'))] = names[-1]
         return moved
+
+
+class Right:
+    """An edit with its answers, and with the right body in place of the wrong one: where the wrong one stands in front, a call of the right one."""
+
+    is_right = True
+
+    def __init__(self, edit):
+        self.edit, self.crate, self.name, self.answers = edit, edit.crate, edit.name, edit.answers
+        self.functions_in, self.moved_in = edit.functions_in, edit.moved_in
+
+    def made_in(self, texts):
+        texts = dict(texts)
+        for file, old, new in self.edit.pairs:
+            if texts.get(file, '').count(old) != 1:
+                return None
+            names = NAME.findall(new)
+            if not file.startswith('src/'):
+                texts[file] = texts[file].replace(old, new)
+            elif new.startswith(old) and len(names) > 1:
+                owner = 'Self::' if texts[file].partition(old)[0].endswith(' ') else ''
+                texts[file] = texts[file].replace(old, with_call(new, names, owner))
+        return texts
+
+
+def with_call(text, names, owner):
+    """A function with its body, and the beginning of the next one: the same, where the first calls the other with what it is given itself."""
+    behind = text.rindex(' fn ' + names[-1])
+    begin = next(at for at in range(behind, 0, -1) if text[at] == '{' and text[at:behind].count('{') == text[at:behind].count('}'))
+    head = text[text.index('fn ' + names[0]):begin]
+    given = parts_of(head[head.index('('):])
+    is_method = bool(given) and given[0].split()[-1].lstrip('&') == 'self'
+    passed = ', '.join(it.split(':')[0].removeprefix('mut ') for it in given[is_method:])
+    call = '%s%s(%s)' % ('self.' if is_method else owner, names[-1], passed)
+    return '%s{ %s }%s' % (text[:begin], call, text[behind:])
+
+
+def parts_of(text):
+    """What stands between the parenthesis that a text begins with and its end, cut at the commas outside of further brackets."""
+    parts, depth = [''], 0
+    for letter in text.replace('->', '  '):
+        depth += (letter in '(<[') - (letter in ')>]')
+        if not depth:
+            break
+        if letter == ',' and depth == 1:
+            parts.append('')
+        elif letter != '(' or depth > 1:
+            parts[-1] += letter
+    return [it.strip() for it in parts if it.strip()]
 
 
 def edits_of(crate, *tiers):

@@ -37,6 +37,10 @@ IS_GONE = re.compile(r'has no `|has no field|is not in scope')
 WAITS = re.compile(r'note: `search` has not tried the goals of `([^`]+)`')
 # A proof file that leaves the proof of a function open.
 OPEN = 'use Rattle.%s.proofs.%s.Statement.{statement}\n\npub %s_spec : {M : Type 1} → statement M\n%s_spec = ?\n'
+# What a file of answers needs for a goal's answer, and the names that an answer of an edit's may have without a `use` line of that file.
+GOALS = 'use Rattle.%s.proofs.%s.Goals as goal\n'
+COMMON = 'use Rattle.std.proofs.Common.{%s}\n'
+COMMON_NAMES = re.compile(r'\b(?:rules|arith|common_steps|tests)\b')
 LEMMAS = re.compile(r'proofs/(?:\w+/)*(?!Answers|Invariants|Lib\b)[A-Z]\w*\.antt')
 LEMMA = re.compile(r'(?:pub )?(\S+) : ')
 ENDED = re.compile(r'^only=\d+ ', re.M)
@@ -80,6 +84,15 @@ def without_proofs(text):
         is_open = bool(begin)
         kept.append('\n'.join([*lines[:begin], found[1] + ' = ?']) if is_open else paragraph)
     return '\n\n'.join(kept) + '\n' * (text.endswith('\n') and not kept[-1].endswith('\n'))
+
+
+def with_answer(text, crate, function, answer):
+    """A file of answers of this function, or the empty text, with one more answer: a goal's name, and what comes behind it."""
+    goal, term = answer
+    names = sorted(set(COMMON_NAMES.findall(term)) - set(re.findall(r'[\w◌]+', ' '.join(re.findall(r'(?m)^use .*', text)))))
+    begin = COMMON % ', '.join(names) if names else ''
+    begin += '' if ' as goal\n' in text else GOALS % (crate, function.replace('::', '.'))
+    return '%s%s\npub %s : goal.%s\n%s%s\n' % (begin, text, goal, goal, goal, term)
 
 
 class Kit:
@@ -182,11 +195,21 @@ class Crate:
         files = ('/'.join(['proofs', *function.split('::'), it]) for it in ('Answers.antt', 'Invariants.antt'))
         return [file for file in files if file in self.texts]
 
-    def said_of(self, texts, functions, moved):
-        """What the prover says of these functions, with these texts; nothing once this was ended."""
+    def answered(self, texts, moved, answers):
+        """The files of answers with those of edits, each the function and its answer. A body of an edit's own has no others."""
+        made = {}
+        for function, answer in answers:
+            file = '/'.join(['proofs', *function.split('::'), 'Answers.antt'])
+            text = made.get(file, '' if function in moved else texts.get(file, ''))
+            made[file] = with_answer(text, self.name, function, answer)
+        return made
+
+    def said_of(self, texts, functions, moved, answers=()):
+        """What the prover says of these functions, with these texts and answers; nothing once this was ended."""
         texts = {**texts, **dict(self.without_bodies(texts, functions, moved))}
         changes = {file: text for file, text in texts.items() if text != self.texts[file]}
         changes.update(self.left_open(functions, moved))
+        changes.update(self.answered(texts, moved, answers))
         self.write(changes)
         try:
             with self.lock:
@@ -231,7 +254,8 @@ class Crate:
         for edit, _ in batch:
             texts = edit.made_in(texts)
             moved.update(self.moved_by(edit))
-        said = self.said_of(texts, {self.named(it) for _, functions in batch for it in functions}, moved)
+        answers = [it for edit, _ in batch for it in edit.answers]
+        said = self.said_of(texts, {self.named(it) for _, functions in batch for it in functions}, moved, answers)
         if not ENDED.search(said):
             half = len(batch) // 2
             return {**self.tried(batch[:half]), **self.tried(batch[half:])} if half else {batch[0][0]: (Kind.UNREAD, False)}
@@ -253,7 +277,7 @@ class Crate:
             again = []
             for batch in batches(waiting, self.texts, most):
                 for edit, (kind, may_change) in self.tried(batch).items():
-                    if len(batch) > 1 and (may_change or kind is Kind.PROVED):
+                    if len(batch) > 1 and not edit.is_right and (may_change or kind is Kind.PROVED):
                         again.append(edit)
                     else:
                         tell(edit, kind)

@@ -1,15 +1,19 @@
 """Tries the wrong bodies: the prover of a crate has to refuse each edit of its folders must-fail/ and wrong-bodies/.
 
-usage: python3 tools/wrong_bodies.py [--chosen] [--changed COMMIT] [CRATE..]    (no crate: every one)
+usage: python3 tools/wrong_bodies.py [--chosen] [--right] [--changed COMMIT] [--log FILE] [--jobs N] [CRATE..]    (no crate: every one)
 
 With --chosen only those that the gate tries: the edits with the line `# tried by the gate`. With --changed only the edits that a change
 since that commit can touch: the edit itself, a file that it edits, or a definition of its crate has changed. How many are left is said.
+With --log what each came to is also added to that file, a line for each, and an edit that it has is not tried again: so all edits can be
+listed in several runs, in the background. With --jobs at most so many checks run side by side.
+
+With --right the right body is tried in place of each edit with answers of its own (edit.py): it has to be proved with these answers.
 
 `rt ci` over a copy builds the libraries, of which it proves only what hasn't passed on this machine. Then edits of different functions
 are tried together (together.py). An edit of no function's body `rt ci` tries by itself, as one of must-fail/. Each edit is told as
 refused, as undecided (only a stored answer no longer fits, which says nothing of the contract), or as failed: not refused, or not
 read. One that every gate tries has failed too if it is undecided. The last line is `N passed, M failed`, and counts no other undecided
-edit; the line above says how many there are, by crate.
+edit; the lines above say how many of each kind there are, by crate.
 """
 
 import argparse
@@ -23,7 +27,7 @@ import sys
 
 sys.dont_write_bytecode = True
 from copies import TOP, Copy, listed  # noqa: E402
-from edit import edits_of  # noqa: E402
+from edit import Right, edits_of  # noqa: E402
 from together import Crate, Kind, Kit  # noqa: E402
 
 ALONE = re.compile(r'rt: must-fail (\S+/\S+\.edit): (refused, as it must be|BAD EDIT)(.*)')
@@ -66,7 +70,10 @@ def is_touched(edit, changed):
 def words():
     parser = argparse.ArgumentParser(prog='wrong_bodies.py', allow_abbrev=False)
     parser.add_argument('--chosen', action='store_true')
+    parser.add_argument('--right', action='store_true')
     parser.add_argument('--changed', metavar='COMMIT')
+    parser.add_argument('--log', metavar='FILE')
+    parser.add_argument('--jobs', metavar='N', type=int)
     parser.add_argument('crates', nargs='*', metavar='CRATE')
     return parser.parse_args()
 
@@ -85,13 +92,32 @@ def by_crate(edits):
     return found
 
 
-def try_together(edits, tell):
+class Told:
+    """What each edit came to, as it is told, and in a file if there is one."""
+
+    def __init__(self, file, edits):
+        self.file, self.kinds = file, {}
+        if file and os.path.exists(file):
+            with open(file, encoding='utf-8') as lines:
+                earlier = dict(line.rstrip('\n').split(': ', 1) for line in lines)
+            self.kinds = {edit: Kind(earlier[edit.name]) for edit in edits if edit.name in earlier}
+
+    def tell(self, edit, kind):
+        self.kinds[edit] = kind
+        line = '%s: %s' % (edit.name, kind.value)
+        print(line, flush=True)
+        if self.file:
+            with open(self.file, 'a', encoding='utf-8') as file:
+                file.write(line + '\n')
+
+
+def try_together(edits, tell, jobs=None):
     """Tells what each edit of a function's body came to, and returns the others. A program is no library, which could be built first."""
     sets = by_crate(edit for edit in edits if is_library(edit.crate))
     left = [edit for edit in edits if edit.crate not in sets]
     if not sets:
         return left
-    with Copy(list(sets)) as copy, concurrent.futures.ThreadPoolExecutor(at_once()) as workers:
+    with Copy(list(sets)) as copy, concurrent.futures.ThreadPoolExecutor(jobs or at_once()) as workers:
         if copy.ci(lambda line: 'NOT PROVED' in line and print(line, end='', flush=True)):
             sys.exit('wrong-bodies: a crate is not proved, so nothing is tried')
         kit = Kit()
@@ -135,23 +161,32 @@ def main():
         edits = [edit for edit in every if is_touched(edit, changed)]
         print('%d are tried; %d are left out: no change since %s touches them'
               % (len(edits), len(every) - len(edits), given.changed), flush=True)
+    if given.right:
+        edits = [Right(edit) for edit in edits if edit.answers]
     if not edits:
         sys.exit('wrong-bodies: there are none')
-    kinds = {}
-
-    def tell(edit, kind):
-        kinds[edit] = kind
-        print('%s: %s' % (edit.name, kind.value), flush=True)
-
-    left = try_together(edits, tell)
-    if left:
+    told = Told(given.log, edits)
+    left = try_together([it for it in edits if it not in told.kinds], told.tell, given.jobs)
+    if left and not given.right:
         print('%d are tried one by one' % len(left), flush=True)
-        try_alone(left, tell)
-    return told_all(kinds)
+        try_alone(left, told.tell)
+    return told_right(edits, told.kinds) if given.right else told_all(told.kinds)
+
+
+def told_right(edits, kinds):
+    """Prints which right bodies aren't proved with the answers of an edit, and the counts; the status to end with."""
+    failed = [edit for edit in edits if kinds.get(edit) is not Kind.PROVED]
+    for edit in failed:
+        print('FAIL %s: its answers do not prove the right body' % edit.name)
+    print('%d passed, %d failed' % (len(edits) - len(failed), len(failed)))
+    return 1 if failed else 0
 
 
 def told_all(kinds):
-    """Prints what was not refused, and the counts; the status to end with."""
+    """Prints the counts of each crate, and what was not refused; the status to end with."""
+    for crate, them in sorted(by_crate(kinds).items()):
+        counts = collections.Counter(kinds[edit].name.lower() for edit in them)
+        print('%s: %d edits: %s' % (crate, len(them), ', '.join('%d %s' % (count, kind) for kind, count in sorted(counts.items()))))
     undecided = by_crate(edit for edit, kind in kinds.items() if kind is Kind.UNDECIDED and not edit.is_tried_by_the_gate())
     failed = [edit for edit, kind in kinds.items() if kind is not Kind.REFUSED and edit not in undecided.get(edit.crate, [])]
     for edit in failed:
