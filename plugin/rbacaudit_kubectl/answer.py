@@ -8,13 +8,12 @@ import re
 from collections.abc import Iterable, Iterator
 from dataclasses import dataclass, field
 
-from .errors import Ended
 from .escapes import bytes_of, text_of
 from .export import Export, look_at_about, open_export
 from .options import Options
 from .processes import PIPE, Done, Session
 from .question import Question, choose_namespace
-from .terminal import is_terminal, print_text
+from .terminal import Ended, is_terminal, print_text
 
 TYPE_CHECKING = False
 if TYPE_CHECKING:
@@ -179,22 +178,22 @@ def answer(asking: Asking) -> int:
     files = [*question.files, *asking.files()]
     line = [*question.line, *files]
     if question.command != 'lint':
-        from .stale import find_stale
-        stale = find_stale(asking)
+        from .remarks import find_stale
+        stale = ', '.join(find_stale(asking))
     has_words = question.why and question.command in ('can-i', 'who-can') and form in ('table', 'wide')
     if form == 'sarif' or has_words or (stale and question.command in ('who-can', 'rules', 'powers', 'paths')):
         done = ask(asking, line, files)
         text = done.out
         if form == 'sarif' and done.status <= 1:
+            from .fields import rows_of
             from .sarif import of_lint
-            from .stale import rows_of
             text = of_lint(asking, rows_of(text))
         status = show_text(asking, text, find_rules(asking, done) if has_words and not done.status else None) or done.status
     else:
         status = list_rows(asking, line, files) if question.command == 'matrix' else ask_shown(asking, line, files)
         done = Done(status)
     if stale and status <= 1:
-        from .stale import remark_on_stale
+        from .remarks import remark_on_stale
         remark_on_stale(asking, stale, line, files, done)
     return status
 

@@ -11,10 +11,9 @@ import os
 from importlib import import_module
 
 from . import VERSION
-from .errors import Ended, Refused
 from .options import COMMANDS
 from .processes import Session, Signalled, hold_files
-from .terminal import print_text
+from .terminal import Ended, Refused, print_text
 
 # The module of each command, which nothing else waits for; the others are questions.
 MODULES = {'export': 'export', 'diff': 'changes', 'read': 'manifests', 'universe': 'listed', 'page': 'page_command'}

@@ -11,7 +11,6 @@ import json
 from collections.abc import Iterable, Iterator
 from typing import Any, List
 
-from .defaults import without
 from .documents import text_in
 from .escapes import bytes_of
 from .fields import ELSEWHERE, WHAT
@@ -33,6 +32,12 @@ def selectors_of(role: Item) -> list[Any]:
     rule = role.get('aggregationRule') if role['kind'] == 'ClusterRole' else None
     found = rule.get('clusterRoleSelectors') if isinstance(rule, dict) else None
     return found if isinstance(found, list) else []
+
+
+def without(own: list[Item], manifests: Manifests) -> list[Item]:
+    """The objects that no manifest replaces."""
+    keys = {key_of_item(item) for item in manifests.items if is_of_rbac(item)}
+    return [item for item in own if key_of_item(item) not in keys]
 
 
 class State:

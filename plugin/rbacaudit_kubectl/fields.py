@@ -38,6 +38,11 @@ def words_of(field: str) -> list[str]:
     return field[1:-1].split(',') if field != '[]' else []
 
 
+def rows_of(text: str) -> list[list[str]]:
+    """The lines of an answer, each as its fields."""
+    return [line.split('\t') for line in text.split('\n') if line]
+
+
 # ---- the powers: the steps by which somebody takes over somebody else
 
 # (the step; its verbs; its types, each with its group after the first dot; `cluster` where only a ClusterRoleBinding gives it, or the namespace whose

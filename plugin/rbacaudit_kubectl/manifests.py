@@ -14,10 +14,11 @@ from dataclasses import dataclass, field
 from typing import Any, Dict
 
 from .documents import read_text, text_in, told
-from .errors import Refused
 from .escapes import bytes_of, on_one_line
 from .fields import in_key
+from .options import read_options
 from .processes import Session
+from .terminal import Refused, print_text
 
 Item = Dict[str, Any]
 KUSTOMIZATIONS = ('kustomization.yaml', 'kustomization.yml', 'Kustomization')
@@ -325,13 +326,7 @@ def check_namespace(name: str) -> None:
 
 def read_command(session: Session, words: list[str]) -> int:
     """kubectl rbacaudit read: the manifests at some paths as one List."""
-    from .help import help_of
-    from .options import read_options
-    from .terminal import print_text
     options = read_options('read', words)
-    if options.help:
-        print_text(help_of('read'))
-        return 0
     options.check_end()
     if not options.paths:
         raise Refused('read needs a path: a file, a folder, or - for standard input')

@@ -5,8 +5,7 @@ from __future__ import annotations
 from collections.abc import Iterator
 from dataclasses import dataclass
 
-from .errors import Ended, Refused
-from .terminal import is_terminal, print_text
+from .terminal import Ended, Refused, is_terminal, print_text
 
 
 @dataclass(frozen=True)

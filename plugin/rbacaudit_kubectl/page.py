@@ -19,10 +19,9 @@ import sys
 from collections.abc import Iterable, Sequence
 from contextlib import suppress
 
-from .errors import Refused
 from .escapes import escape_title, script_class
 from .page_data import CHANGE, FINDING, MOST_ROWS, NAMED, NOTICE, PROGRAM, TYPE, Answers, about, coded, listed, matrix_rows
-from .terminal import Progress, is_terminal, report
+from .terminal import Progress, Refused, is_terminal, report
 
 HERE = os.path.dirname(os.path.realpath(__file__))
 # The files of the page: in the sources, and where make install puts them.

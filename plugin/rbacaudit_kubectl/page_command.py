@@ -9,7 +9,6 @@ from collections.abc import Iterator
 
 from . import page
 from .answer import Asking, ask_well, lines_of, report_fault
-from .errors import Refused
 from .escapes import printable, text_of
 from .export import open_export, write_about
 from .fields import has_name, in_field
@@ -17,9 +16,8 @@ from .listed import Type, list_types, make_universe
 from .options import read_options
 from .processes import PIPE, Session
 from .question import Question, check_cluster
-from .remarks import look_for_universes, on_namespace
-from .stale import stale_in
-from .terminal import is_terminal
+from .remarks import look_for_universes, on_namespace, stale_in
+from .terminal import Refused, is_terminal
 
 # A rule with resourceNames, perhaps with a letter of it as an escape.
 NAMES = re.compile(rb'"resourceNames"|\\u00([46][0-9A-Fa-f]|[57][0-9Aa])')
@@ -49,7 +47,7 @@ def write_page(asking: Asking) -> int:
     given = [session.write('universe.json', text), *asking.question.files]
     linted = [*given, *asking.files('cluster.json', 'namespaced.json')]
     texts = {'--lint': ask_well(asking, ['lint', '--', *linted], linted).out, '--named': ''.join(named_holders(asking, types))}
-    stale = stale_in(texts['--lint'])
+    stale = ', '.join(stale_in(texts['--lint']))
     if stale:
         session.report('stale aggregates (L6 of lint): %s; the cluster grants what is written in them, and this page has what they gather' % stale)
     texts['--notices'] = printable(''.join(line + '\n' for line in notices(asking, stale)))

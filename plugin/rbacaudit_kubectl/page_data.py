@@ -9,9 +9,8 @@ import sys
 from array import array
 from collections.abc import Iterable, Iterator, Sequence
 
-from .errors import Refused
 from .fields import BINDING, FIELD, PRINCIPAL, ROLE, STEP
-from .terminal import Progress
+from .terminal import Progress, Refused
 
 PROGRAM = 'rbacaudit-page'
 MOST_ROWS = 500_000

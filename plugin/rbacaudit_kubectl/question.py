@@ -2,10 +2,9 @@
 
 from __future__ import annotations
 
-from .errors import Ended, Refused
 from .options import COMMANDS, Options, Token, choose_format, tokens_of
 from .processes import NOTHING, Session
-from .terminal import is_terminal, print_text
+from .terminal import Ended, Refused, is_terminal, print_text
 
 FLAGS = {'--all-namespaces': 'everywhere', '--anywhere': 'anywhere', '--in-namespace': 'in_namespace', '--indirect': 'indirect',
          '--once': 'once', '--quiet': 'quiet', '--why': 'why', '--why-not': 'why_not'}
@@ -163,6 +162,6 @@ def question_command(session: Session, command: str, words: list[str]) -> int:
     accept_words(session, question)
     from .answer import Asking, answer_question
     if alone:
-        from .lint import lint_manifests
+        from .alone import lint_manifests
         return lint_manifests(Asking(session, options, question))
     return answer_question(session, options, question)

@@ -4,17 +4,15 @@ from __future__ import annotations
 
 import json
 from collections.abc import Iterable, Iterator
+from typing import Any
 
 from .answer import Asking
 from .documents import read_document, read_text, text_in, told
 from .escapes import bytes_of
+from .fields import rows_of
 from .kubectl import RBAC
 from .listed import Lists, Type
-from .processes import Session
-
-TYPE_CHECKING = False
-if TYPE_CHECKING:
-    from typing import Any
+from .processes import Done, Session
 
 SPELLING = ': check the spelling'
 ELSEWHERE = '-n NS asks about another, and -A about the whole cluster'
@@ -28,6 +26,9 @@ UNLISTED = {'impersonate': ('users', 'users.', 'groups', 'groups.', 'uids.authen
             'approve': SIGNERS, 'sign': SIGNERS, 'attest': SIGNERS}
 UNIVERSE_FIELDS = ('apiVersion', 'kind', 'metadata', 'principals', 'namespaces', 'verbs', 'names', 'resources', 'urls')
 ITEM_FIELDS = {'principals': ('user', 'groups', 'group'), 'resources': ('group', 'resource', 'namespaced')}
+# What an answer of each command has, and the fields of a line that tell something, by their number: the others say where a rule is written.
+DIFFERS = {'who-can': 'holders', 'rules': 'rules', 'powers': 'powers', 'paths': 'paths'}
+TELLING = {8: (0, 1, 2), 10: (0, 5, 6, 7, 8, 9), 11: (0, 1, 2, 3, 4, 5)}
 
 
 def first_three(names: Iterable[str]) -> str:
@@ -228,3 +229,44 @@ def universe_faults(document: dict[str, Any], idle: bool) -> Iterator[str]:
         yield from ('%s has no field %s, so it is ignored' % (what, told(name)) for what, name in names)
     elif 'apiVersion' in document and (kind == 'Universe' or version.startswith('rbacaudit')):
         yield 'a document of the version %s and the kind %s is ignored: a Universe document has rbacaudit/v1 and Universe' % (told(version), told(kind))
+
+
+# ---- stale aggregates
+
+def stale_in(findings: str) -> list[str]:
+    """Stale aggregates in use, by the findings L2 and L6: aggregated roles whose written rules, which a cluster grants, aren't those that they
+    gather."""
+    rows = rows_of(findings)
+    unused = {row[2] for row in rows if row[0] == 'L2'}
+    return [row[2] for row in rows if row[0] == 'L6' and row[2] not in unused]
+
+
+def find_stale(asking: Asking, *more: str) -> list[str]:
+    """The stale aggregates of an export, with files of more objects."""
+    files = [*asking.files('cluster.json', 'namespaced.json'), *more]
+    is_needed = more or asking.files('cluster.json')
+    return stale_in(asking.session.capture(['rbacaudit', 'lint', '--only=L2,L6', *files]).out) if is_needed else []
+
+
+def remark_on_stale(asking: Asking, stale: str, line: list[str], files: list[str], answer: Done) -> None:
+    """Asks again as a cluster decides, by the rules that are written in aggregated roles, and says what it answers."""
+    session, command = asking.session, asking.question.command
+    if command == 'matrix':
+        session.report('stale aggregates (L6 of lint): %s; the cluster grants what is written in them, and this matrix has what they gather' % stale)
+        return
+    # (no other object has the field, and a text that looks like it has a backslash before its last quote; of documents that
+    # have an object, the last counts)
+    text = read_text(asking.files('cluster.json')[0]).replace('"aggregationRule":', '"was":')
+    written = session.capture(['rbacaudit', *line, session.write('as-written.json', text)])
+    differs = ''
+    if command == 'can-i' and {answer.status, written.status} == {0, 1}:
+        differs = 'answers no' if written.status else 'answers yes'
+    elif command in DIFFERS and not answer.status and not written.status and telling(answer) != telling(written):
+        differs = 'has other ' + ('paths' if asking.question.indirect else DIFFERS[command])
+    if differs:
+        session.report('the cluster %s now, because of stale aggregates (L6 of lint): %s' % (differs, stale))
+
+
+def telling(answer: Done) -> set[tuple[str, ...]]:
+    """What an answer says, wherever a rule is written."""
+    return {tuple(row[at] for at in TELLING.get(len(row), (0,))) for row in rows_of(answer.out)}

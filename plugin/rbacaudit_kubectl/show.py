@@ -12,12 +12,11 @@ from collections.abc import Iterable, Iterator, Mapping, Sequence
 from dataclasses import dataclass
 
 from . import VERSION
-from .errors import Ended, Refused
 from .escapes import bytes_of, escaped
 from .escapes import text_of as text_of_bytes
 from .fields import LACKS, NUMBER, REMARK, SHAPES, Row, Shape, text_of, words_of
 from .table import Table
-from .terminal import has_colors, is_terminal, print_text, report
+from .terminal import Ended, Refused, has_colors, is_terminal, print_text, report
 
 PROGRAM = 'rbacaudit-show'
 CHOICES = {'-o': ('format', 'table', 'wide', 'json', 'name'), '--color': ('color', 'auto', 'always', 'never')}

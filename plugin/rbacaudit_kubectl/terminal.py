@@ -1,4 +1,4 @@
-"""What reaches a terminal: messages that nobody can take for another's, lines of progress, and answers."""
+"""What reaches a terminal: messages that nobody can take for another's, lines of progress, and answers; and how a run ends before its end."""
 
 from __future__ import annotations
 
@@ -11,6 +11,18 @@ from dataclasses import dataclass
 from .escapes import bytes_of, escaped, on_one_line
 
 PLUGIN = 'kubectl-rbacaudit'
+
+
+class Refused(Exception):
+    """What is asked can't be done: its text is reported, and the status is 2."""
+
+
+class Ended(Exception):
+    """The run ends with this status, and all has been said."""
+
+    def __init__(self, status: int) -> None:
+        super().__init__(status)
+        self.status = status
 
 
 def say(text: str) -> None:

@@ -1,25 +1,80 @@
-"""diff of two states of manifests, without an export and without a cluster."""
+"""Manifests alone, without an export and without a cluster: lint and diff of them, beside the objects that Kubernetes itself makes.
+
+Kubernetes' own cluster roles and bindings are in every cluster: what a server of 1.20 made, with the rows that newer versions add.
+"""
 
 from __future__ import annotations
 
 import json
+import os
 
-from .answer import Asking, ask, ask_well
+from .answer import Asking, ask, ask_well, show_text
 from .changes import show_rows, take_side
-from .defaults import list_file, own_beside
-from .elsewhere import Pair, State, file_of, joined, selectors_of
-from .errors import Refused
-from .manifests import BINDINGS, ROLES, need_held, role_of
+from .documents import read_text
+from .elsewhere import Pair, State, file_of, joined, selectors_of, without
+from .fields import in_key, rows_of
+from .manifests import (BINDINGS, ROLES, Item, check_inputs, is_held, key_of_item, list_text, need_held, role_of,
+                        take_manifests)
+from .options import manifest_path
+from .processes import Session
 from .remarks import first_three
-from .stale import rows_of
+from .terminal import Refused
 
+OWN = os.path.join(os.path.dirname(os.path.abspath(__file__)), 'defaults.json')
+
+
+def own_beside(asking: Asking) -> list[Item]:
+    """Kubernetes' own objects, each once; standard error says that they count. In the file, what a newer version adds to a role stands in
+    another of its name, with the version that has it."""
+    found: dict[str, Item] = {}
+    if not asking.options.bare:
+        asking.session.report("Kubernetes' own roles and bindings count too; --no-defaults leaves them out")
+        for item in json.loads(read_text(OWN))['items']:
+            role = found.setdefault(key_of_item(item), item)
+            if role is not item:
+                role['rules'] += item['rules']
+    return [*found.values()]
+
+
+def list_file(session: Session, name: str, items: list[Item]) -> str:
+    """A file with these objects, for rbacaudit."""
+    return session.write('%s.json' % name, list_text([json.dumps(item, ensure_ascii=False) for item in items]))
+
+
+# ---- lint
+
+def lint_manifests(asking: Asking) -> int:
+    """Answers lint, whose FILEs are paths of manifests: each finding with the file of its object, the last of several."""
+    paths = [manifest_path(path) for path in asking.question.files]
+    check_inputs(paths)
+    found = take_manifests(asking.session, 'lint', paths, offers=False)
+    need_held('checked', found)
+    asking.manifests[found.file] = found
+    own = list_file(asking.session, 'own', without(own_beside(asking), found))
+    done = ask(asking, [*asking.question.line, found.file, own], [found.file, own])
+    if done.status > 1:
+        return done.status
+    origins = {key_of_item(item): origin for item, origin in zip(found.items, found.origins) if is_held(item)}
+    rows = [row for row in rows_of(done.out) if row[2] in origins]   # (and not of Kubernetes' own objects)
+    if asking.options.format == 'sarif':
+        from .sarif import of_lint
+        text = of_lint(asking, rows)
+    else:
+        text = ''.join('%s\t%s\n' % ('\t'.join(row), in_key(origins[row[2]])) for row in rows)
+    failed = show_text(asking, text)
+    if any(row[0] == 'L1' for row in rows):
+        asking.session.report('a role that L1 misses may be in the cluster: these are the manifests alone')
+    return failed or int(bool(rows))
+
+
+# ---- diff
 
 def compare_states(asking: Asking) -> int:
     """Compares manifests. Kubernetes' own objects count on both sides, and so does whoever has a role elsewhere."""
     options, session = asking.options, asking.session
     sides = [take_side(asking, 'from', options.before), take_side(asking, 'to', options.after)]
     need_held('compared', *sides)
-    own = own_beside(session, options.bare)
+    own = own_beside(asking)
     before, after = states = [State(side, own) for side in sides]
     pair = Pair(before, after)
     bound, held = ['diff'], ['diff']
