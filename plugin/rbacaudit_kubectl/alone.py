@@ -10,14 +10,13 @@ import os
 
 from .answer import Asking, ask, ask_well, show_text
 from .changes import show_rows, take_side
-from .documents import read_text
+from .documents import first_three, read_text
 from .elsewhere import Pair, State, file_of, joined, selectors_of, without
 from .fields import in_key, rows_of
 from .manifests import (BINDINGS, ROLES, Item, check_inputs, is_held, key_of_item, list_text, need_held, role_of,
                         take_manifests)
 from .options import manifest_path
 from .processes import Session
-from .remarks import first_three
 from .terminal import Refused
 
 OWN = os.path.join(os.path.dirname(os.path.abspath(__file__)), 'defaults.json')

@@ -9,6 +9,7 @@ from collections.abc import Iterator
 from dataclasses import dataclass, field
 
 from .answer import Asking
+from .documents import first_of
 from .fields import in_field, in_key
 from .listed import V1
 from .question import ACCOUNT
@@ -84,9 +85,8 @@ class Names:
         if asker not in ('', 'system:anonymous') and not is_member and 'u:' + in_key(asker) not in self.named:
             yield 'no binding of the export names the user %s%s' % (in_key(asker), self._of_user(asker, bool(groups)))
         if unnamed:
-            more = ' and %d more' % (len(unnamed) - 3) if len(unnamed) > 3 else ''
             hint = next(filter(None, map(self._of_group, unnamed)), SPELLING)
-            yield 'no binding of the export names the group%s %s%s%s' % ('s' * (len(unnamed) > 1), ', '.join(map(in_key, unnamed[:3])), more, hint)
+            yield 'no binding of the export names the group%s %s%s' % ('s' * (len(unnamed) > 1), first_of([*map(in_key, unnamed)]), hint)
 
     def _of_user(self, name: str, has_groups: bool) -> str:
         """Who was probably meant."""

@@ -4,6 +4,7 @@ from __future__ import annotations
 
 import json
 import os
+from collections.abc import Iterable, Sequence
 from contextlib import suppress
 from typing import Any
 
@@ -23,6 +24,16 @@ def told(text: str) -> str:
     """A text in a message: as JSON has it, and cut where it is long. A character that is cut in two is dropped."""
     data = bytes_of(json.dumps(text, ensure_ascii=False)[1:-1])
     return text_of(data) if len(data) <= MOST_BYTES else data[:MOST_BYTES].decode('utf-8', 'ignore') + '..'
+
+
+def first_of(names: Sequence[str], most: int = 3) -> str:
+    """The first of some names, and how many more there are."""
+    return ', '.join(names[:most]) + (' and %d more' % (len(names) - most) if len(names) > most else '')
+
+
+def first_three(names: Iterable[str]) -> str:
+    """The first three of some names in order, each once, and how many more there are."""
+    return first_of(sorted(set(names), key=bytes_of))
 
 
 def read_text(path: str) -> str:

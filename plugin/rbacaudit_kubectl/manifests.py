@@ -13,7 +13,7 @@ from collections.abc import Iterator
 from dataclasses import dataclass, field
 from typing import Any, Dict
 
-from .documents import read_text, text_in, told
+from .documents import first_of, read_text, text_in, told
 from .escapes import bytes_of, on_one_line
 from .fields import in_key
 from .options import read_options
@@ -239,9 +239,8 @@ def take_manifests(session: Session, name: str, paths: list[str], namespace: str
     session.report('read from %s: %s' % (found.named, ', '.join('%d %s%s' % (many, of, 's'[many == 1:]) for many, of in counts)))
     look_for_doubts(session, found)
     if bare:
-        first = ', '.join(bare[:3]) + (' and %d more' % (len(bare) - 3) if len(bare) > 3 else '')
         offer = '; -n NS counts them in NS' if offers and not namespace else ''
-        session.report('these have no namespace, and count in %s: %s%s' % (namespace or 'default', first, offer))
+        session.report('these have no namespace, and count in %s: %s%s' % (namespace or 'default', first_of(bare), offer))
     elif namespace:
         session.report('no object of %s lacks a namespace, so -n %s changes nothing' % (found.named, namespace))
     found.file = session.write('manifests-%s.json' % name, list_text(found.texts))

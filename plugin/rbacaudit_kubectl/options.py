@@ -219,16 +219,3 @@ def choose_format(options: Options, said_of: str) -> None:
     options.format, known = options.format or ('table' if is_terminal(1) else 'tsv'), formats_of(said_of)
     if options.format not in known:
         raise Refused('%s has no format %s: -o takes %s or %s' % (said_of, options.format, ', '.join(known[:-1]), known[-1]))
-
-
-def described(options: tuple[Option, ...], width: int, most: int = 116) -> Iterator[str]:
-    """Lines of help on options; what several do alike stands once."""
-    for text in dict.fromkeys(option.text for option in options):
-        names = ', '.join(('%s %s' % (option.spellings[0], option.value)).strip() for option in options if option.text == text)
-        line = ('  ' + names).ljust(width - 2) + ' '
-        for word in text.split():
-            if len(line) + len(word) >= most:
-                yield line
-                line = ' ' * (width - 1)
-            line += ' ' + word
-        yield line

@@ -3,12 +3,11 @@
 from __future__ import annotations
 
 import json
-from collections.abc import Iterable, Iterator
+from collections.abc import Iterator
 from typing import Any
 
 from .answer import Asking
 from .documents import read_document, read_text, text_in, told
-from .escapes import bytes_of
 from .fields import rows_of
 from .kubectl import RBAC
 from .listed import Lists, Type
@@ -29,12 +28,6 @@ ITEM_FIELDS = {'principals': ('user', 'groups', 'group'), 'resources': ('group',
 # What an answer of each command has, and the fields of a line that tell something, by their number: the others say where a rule is written.
 DIFFERS = {'who-can': 'holders', 'rules': 'rules', 'powers': 'powers', 'paths': 'paths'}
 TELLING = {8: (0, 1, 2), 10: (0, 5, 6, 7, 8, 9), 11: (0, 1, 2, 3, 4, 5)}
-
-
-def first_three(names: Iterable[str]) -> str:
-    """The first three of some names, and how many more there are."""
-    found = sorted(set(names), key=bytes_of)
-    return ', '.join(found[:3]) + (' and %d more' % (len(found) - 3) if len(found) > 3 else '')
 
 
 def remark_on_question(asking: Asking) -> None:

@@ -10,7 +10,7 @@ from typing import Any, Dict
 
 from . import VERSION
 from .answer import Asking
-from .documents import read_document
+from .documents import first_of, read_document
 from .escapes import escaped
 from .fields import is_gathered
 from .manifests import Item, Manifests, is_held, key_of_item, role_of
@@ -181,10 +181,9 @@ def changes_of(sides: list[Side], rows: list[list[str]]) -> Iterator[Part]:
             for row in group:
                 by_binding.setdefault(row[7], []).append(row)
             for binding, some in by_binding.items():
-                listed = ', '.join(map(permission_of, some[:FEW])) + (' and %d more' % (len(some) - FEW) if len(some) > FEW else '')
                 fields = {'who': WHO[who[0]] + shown(who[2:]), 'permissions': '%d permission%s' % (len(some), 's'[len(some) == 1:]),
                           'where': {'-': '', '*': ' in all namespaces'}.get(where, ' in the namespace ' + shown(where)),
-                          'by': '' if binding == '-' else ', granted%s by %s' % (' before' * at, shown(binding)), 'listed': listed}
+                          'by': '' if binding == '-' else ', granted%s by %s' % (' before' * at, shown(binding)), 'listed': first_of([*map(permission_of, some)], FEW)}
                 yield result_of(DIFF, at, fields, [who, where, binding], *locations_of(sides, 1 - at, who, binding))
 
 

@@ -6,7 +6,7 @@ import tempfile
 import unittest
 
 from rbacaudit_kubectl import manifests
-from rbacaudit_kubectl.errors import Refused
+from rbacaudit_kubectl.terminal import Refused
 
 BINDING = {'apiVersion': 'rbac.authorization.k8s.io/v1', 'kind': 'RoleBinding', 'metadata': {'name': 'b\\\n'},
            'roleRef': {'kind': 'ClusterRole', 'name': 'view'}}
