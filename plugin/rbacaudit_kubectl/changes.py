@@ -176,50 +176,37 @@ def compare(asking: Asking, words: list[str], old: Manifests | None = None, new:
 
 def show_rows(asking: Asking, rows: list[list[str]], old: Manifests | None, new: Manifests | None, own: list[Item] | None = None) -> int:
     """Shows the lines of an answer; the status. Kubernetes' own objects count beside manifests alone."""
-    options, status = asking.options, int(bool(rows))
-    text = ''.join('\t'.join(row) + '\n' for row in rows)
-    if options.summary or options.fail_on:
-        summary, total = summarize(rows)
-        text, status = summary if options.summary else text, total.status(options.fail_on)
+    options = asking.options
     if options.format == 'sarif':
         from .sarif import of_diff
         text = of_diff(asking, old, new, rows, own or [])
-    return show_text(asking, text) or status
+    else:
+        text = summarize(rows) if options.summary else ''.join('\t'.join(row) + '\n' for row in rows)
+    return show_text(asking, text) or int(fails(rows, options.fail_on))
 
 
 # ---- how much who gains and loses where, and what --fail-on makes of it
 
-class Tally:
-    """How many permissions are gained and lost, and the powers among them."""
-
-    def __init__(self) -> None:
-        self.counts = {'+': 0, '-': 0}
-        self.powers: dict[str, set[str]] = {'+': set(), '-': set()}
-        self.may_be_powers = 0      # how often somebody gains what a role gathers elsewhere
-
-    def take(self, cells: list[str]) -> None:
-        """Counts a line of diff."""
-        self.counts[cells[0]] += 1
-        self.powers[cells[0]].update(powers_of('diff', cells))
-        self.may_be_powers += cells[0] == '+' and is_gathered(cells)
-
-    def line(self, *about: str) -> str:
-        """The line with all of it."""
-        powers = ('[%s]' % ','.join(name for name in STEP_NAMES if name in some) for some in self.powers.values())
-        return '\t'.join((*about, *map(str, self.counts.values()), *powers)) + '\n'
-
-    def status(self, fails_on: str) -> int:
-        """The status by the word after --fail-on."""
-        counted = {'gains': self.counts['+'], 'powers': len(self.powers['+']) + self.may_be_powers}
-        return int(counted.get(fails_on, sum(self.counts.values())) > 0)
+def line_of(about: tuple[str, ...], rows: list[list[str]]) -> str:
+    """The line of a summary: how many permissions are gained and lost, and the powers among them."""
+    sides = [[row for row in rows if row[0] == sign] for sign in '+-']
+    powers = ({power for row in side for power in powers_of('diff', row)} for side in sides)
+    listed = ('[%s]' % ','.join(name for name in STEP_NAMES if name in some) for some in powers)
+    return '\t'.join((*about, *(str(len(side)) for side in sides), *listed)) + '\n'
 
 
-def summarize(rows: list[list[str]]) -> tuple[str, Tally]:
-    """A line for each who, where and binding of lines of diff, and one for all; and the latter's counts."""
-    total = Tally()
-    tallies: dict[tuple[str, str, str], Tally] = {}
-    for cells in rows:
-        total.take(cells)
-        tallies.setdefault((cells[1], cells[2], cells[7]), Tally()).take(cells)
-    lines = sorted((tally.line(*about) for about, tally in tallies.items()), key=bytes_of)
-    return ''.join(lines) + total.line('total', '-', '-'), total
+def summarize(rows: list[list[str]]) -> str:
+    """A line for each who, where and binding of lines of diff, and one for all."""
+    groups: dict[tuple[str, ...], list[list[str]]] = {}
+    for row in rows:
+        groups.setdefault((row[1], row[2], row[7]), []).append(row)
+    lines = sorted((line_of(about, some) for about, some in groups.items()), key=bytes_of)
+    return ''.join(lines) + line_of(('total', '-', '-'), rows)
+
+
+def fails(rows: list[list[str]], fail_on: str) -> bool:
+    """Whether there is what --fail-on names. What a role gathers elsewhere may be a power."""
+    gained = [row for row in rows if row[0] == '+']
+    if fail_on == 'powers':
+        return any(powers_of('diff', row) or is_gathered(row) for row in gained)
+    return bool(gained if fail_on == 'gains' else rows)

@@ -7,7 +7,6 @@ where types matter, rbacaudit itself lists them and says which a word means, so 
 
 from __future__ import annotations
 
-import os
 from importlib import import_module
 
 from . import VERSION
@@ -56,8 +55,3 @@ def main(words: list[str], beside: str) -> int:
             return 2
     except Signalled as signalled:
         return signalled.status
-
-
-def end(status: int) -> None:
-    """Ends the process at once: all is written and removed, and what can't be written has been said."""
-    os._exit(status)

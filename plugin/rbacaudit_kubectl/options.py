@@ -10,7 +10,7 @@ from .terminal import Ended, Refused, is_terminal, print_text
 
 @dataclass(frozen=True)
 class Option:
-    """An option: its spellings, what its value is called, the field of Options that it sets (one of rbacaudit's own has none), what it does."""
+    """An option: its spellings, what its value is called, the field of Options that it sets, what it does, and whether it may come again."""
     names: str
     value: str = ''
     field: str = ''
@@ -56,12 +56,13 @@ OF_EXPORT = (
     Option('--force', '', 'force', 'replace all files of an export that DIR holds; other files in DIR stay'),
     Option('-n,--namespace', 'NS', 'namespace', 'read only the namespace NS: use this if you may read no other'), *TARGETS,
     Option('--as', 'USER', 'as_user', AS_KUBECTL), Option('--as-group', 'GROUP', 'as_groups', AS_KUBECTL, True))
-# rbacaudit's own, which the plugin passes on: their values have to be known for what they are.
+# rbacaudit's own, which the plugin passes on: their values have to be known for what they are. Their fields are those of Question.
 PASSED = {option.long: option for option in (
-    Option('--as', 'USER'), Option('--groups', 'A,B'), Option('--group', 'G', repeats=True), Option('-n,--namespace', 'NS'),
-    Option('-A,--all-namespaces'), Option('--in-namespace'), Option('--subresource', 'S'), Option('-q,--quiet'), Option('--why'), Option('--why-not'),
-    Option('--anywhere'), Option('--any-name'), Option('--every'), Option('--indirect'), Option('--steps', 'STEPS'), Option('--once'),
-    Option('--after', 'TOKEN'), Option('--limit', 'N'), Option('--only', 'CODES'), Option('--skip-system'))}
+    Option('--as', 'USER', 'asker'), Option('--groups', 'A,B'), Option('--group', 'G', repeats=True), Option('-n,--namespace', 'NS', 'namespace'),
+    Option('-A,--all-namespaces', '', 'everywhere'), Option('--in-namespace', '', 'in_namespace'), Option('--subresource', 'S', 'subresource'),
+    Option('-q,--quiet', '', 'quiet'), Option('--why', '', 'why'), Option('--why-not', '', 'why_not'), Option('--anywhere', '', 'anywhere'),
+    Option('--any-name'), Option('--every'), Option('--indirect', '', 'indirect'), Option('--steps', 'STEPS'), Option('--once', '', 'once'),
+    Option('--after', 'TOKEN'), Option('--limit', 'N'), Option('--only', 'CODES', 'codes'), Option('--skip-system'))}
 SCOPE = '--namespace --all-namespaces --in-namespace --subresource '
 
 

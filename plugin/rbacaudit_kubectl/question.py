@@ -2,13 +2,10 @@
 
 from __future__ import annotations
 
-from .options import COMMANDS, Options, Token, choose_format, tokens_of
+from .options import COMMANDS, PASSED, Option, Options, Token, choose_format, tokens_of
 from .processes import NOTHING, Session
 from .terminal import Ended, Refused, is_terminal, print_text
 
-FLAGS = {'--all-namespaces': 'everywhere', '--anywhere': 'anywhere', '--in-namespace': 'in_namespace', '--indirect': 'indirect',
-         '--once': 'once', '--quiet': 'quiet', '--why': 'why', '--why-not': 'why_not'}
-VALUES = {'--as': 'asker', '--subresource': 'subresource', '--only': 'codes', '--namespace': 'namespace'}
 ROLES = ['cluster.json', 'namespaced.json']
 PARTS = {'rules': ROLES, 'powers': ROLES, 'lint': ROLES, 'diff': ROLES, 'paths': [*ROLES, 'accounts.json'],
          'matrix': [*ROLES, 'namespaces.json', 'accounts.json', 'api']}
@@ -46,16 +43,14 @@ class Question:
         place = ['--namespace=' + self.asked_in] if not self.has_namespace and (self.implied or self.own) else []
         return [self.command, *place, *['--in-namespace'] * bool(self.own or self.place_of), *self.words]
 
-    def take(self, token: Token, name: str) -> None:
+    def take(self, token: Token, option: Option) -> None:
         """Takes an option that rbacaudit has."""
         value = token.value or ''
-        if name in ('--group', '--groups'):
-            self.take_groups(value, name == '--groups')
-        elif name in VALUES:
-            setattr(self, VALUES[name], value)
-            self.has_namespace |= name == '--namespace' and token.value is not None
-        elif name in FLAGS:
-            setattr(self, FLAGS[name], True)
+        if option.long in ('--group', '--groups'):
+            self.take_groups(value, option.long == '--groups')
+        elif option.field:
+            setattr(self, option.field, value if option.value else True)
+        self.has_namespace |= option.field == 'namespace' and token.value is not None
         if len(token.words) > 1 and value.startswith('-'):
             self.dashed = '%s=%s' % (token.name, value)
 
@@ -83,11 +78,11 @@ def read_question(command: str, words: list[str]) -> tuple[Options, Question]:
     most = len(COMMANDS[command].places.split()) - 1
     for token in tokens_of(command, words):
         word = token.words[0]
-        if token.option and token.option.field:
+        if token.option and token.option.long not in PASSED:
             options.take(token, token.option)
             continue
         if token.option:
-            question.take(token, token.option.long)
+            question.take(token, token.option)
         elif not token.name and len(question.places) == most:
             question.files.append(word)
             continue
