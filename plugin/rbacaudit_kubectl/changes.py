@@ -110,7 +110,11 @@ def compare_change(asking: Asking) -> int:
     over = name_path(options.with_) + ' is put over'
     if gone:
         session.report('what %s has is taken from the export%s' % (gone.named, ', and %s it' % over if put else ''))
-        remark_on_absent(asking, gone, files)
+        # (what both have is replaced for lint)
+        both = session.capture(['rbacaudit', 'lint', '--only=L7', *files, gone.file])
+        absent = {key_of_item(item) for item in gone.items if is_of_rbac(item)} - {row[2] for row in rows_of(both.out)}
+        if absent and both.status <= 1:
+            session.report("the export doesn't have these, so nothing is taken away with them: %s" % first_three(absent))
         words += ['--without', gone.file]
     else:
         session.report(over + ' the export: objects that the change deletes still count')
@@ -122,15 +126,6 @@ def compare_change(asking: Asking) -> int:
                            'they select each other, and these lines have what they gather' % ', '.join(made))
         words += ['--with', put.file]
     return compare(asking, words, gone, put)
-
-
-def remark_on_absent(asking: Asking, gone: Manifests, files: list[str]) -> None:
-    """Reports what of the manifests that are taken away the export doesn't have: what both have is replaced for lint."""
-    both = asking.session.capture(['rbacaudit', 'lint', '--only=L7', *files, gone.file])
-    there = {row[2] for row in rows_of(both.out)}
-    absent = first_three({key_of_item(item) for item in gone.items if is_of_rbac(item)} - there)
-    if absent and both.status <= 1:
-        asking.session.report("the export doesn't have these, so nothing is taken away with them: %s" % absent)
 
 
 # ---- labels that a cluster has and manifests haven't: kubectl apply leaves those that it didn't set, and aggregated roles gather by them

@@ -1,7 +1,7 @@
 """kubectl rbacaudit: exports what rbacaudit reads from a cluster, and asks rbacaudit about it.
 
 kubectl is called with `get`, `config view` and `patch --local`, which reads manifests without a cluster. No answer depends on a document
-that is taken apart here, but for the namespace that -n adds to manifests, and for what is made up beside manifests alone (elsewhere.py):
+that is taken apart here, but for the namespace that -n adds to manifests, and for what is made up beside manifests alone (alone.py):
 where types matter, rbacaudit itself lists them and says which a word means, so no label and no name can mislead.
 """
 

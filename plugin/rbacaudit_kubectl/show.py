@@ -179,17 +179,6 @@ def check_values(found: Mapping[str, str]) -> None:
         raise Refused("can't read " + found['--rules'])
 
 
-def width_of_screen(environment: Mapping[str, str]) -> int:
-    """How many columns the terminal has that standard output goes to."""
-    given = environment.get('COLUMNS', '')
-    if re.fullmatch(NUMBER, given):
-        return int(given)
-    try:
-        return os.get_terminal_size(1).columns or 80
-    except OSError:
-        return 80
-
-
 def show(lines: Iterable[bytes], form: str, *, headers: bool = True, color: str = 'auto', rules: str | None = None,
          indirect: bool = False) -> int:
     """Writes lines in a form, as they come, and gives the status. `rules` are lines of rules for a table."""
@@ -200,7 +189,10 @@ def show(lines: Iterable[bytes], form: str, *, headers: bool = True, color: str 
     elif form == 'name':
         texts = names_of(reader.rows_of(map(escaped, given) if on_terminal else given))
     else:
-        screen = width_of_screen(os.environ) if form == 'table' and on_terminal else 0
+        screen = 0
+        if form == 'table' and on_terminal:
+            from shutil import get_terminal_size
+            screen = get_terminal_size().columns
         table = Table(headers, has_colors(color, os.environ), on_terminal, screen)
         table.take_rules((rules or '').split('\n'))
         texts = table.texts_of(reader.rows_of(map(table.seen, given)))
