@@ -129,7 +129,7 @@ def look_for_stale(asking: Asking, before: State, after: State, *files: list[str
     """Refuses aggregated roles that come, go or change with written rules that they don't gather: roles that select each other keep these."""
     changed = {key for state in (before, after) for key, role in state.of(ROLES).items()
                if selectors_of(role) and role.get('rules') and before.objects.get(key) != after.objects.get(key)}
-    found = [rows_of(asking.session.capture(['rbacaudit', 'lint', '--only=L6', *some]).out) for some in files if changed]
+    found = [rows_of(ask_well(asking, ['lint', '--only=L6', *some], some).out) for some in files if changed]
     stale = sorted({row[2] for rows in found for row in rows} & changed)
     if stale and not asking.options.partial:
         raise Refused('stale aggregates (L6 of lint): %s; a cluster grants what is written in them, for ever if they select each other, so '

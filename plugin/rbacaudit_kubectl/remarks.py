@@ -18,7 +18,7 @@ from .processes import Done, Session
 from .question import ACCOUNT
 
 SPELLING = ': check the spelling'
-ELSEWHERE = '-n NS asks about another, and -A about the whole cluster'
+OTHER_PLACES = '-n NS asks about another, and -A about the whole cluster'
 URL_VERBS = ('get', 'put', 'post', 'head', 'options', 'delete', 'patch')
 # Verbs that no API resource list has.
 SPECIAL = ('*', 'bind', 'escalate', 'use', 'approve', 'sign', 'attest')
@@ -163,7 +163,7 @@ def on_place(asking: Asking) -> Iterator[str]:
     """A question about a cluster-scoped type is about a namespace."""
     question = asking.question
     if question.place_of:
-        about = 'the question is about the namespace %s; %s' % (question.asked_in, ELSEWHERE if question.implied else '-A asks about the whole cluster')
+        about = 'the question is about the namespace %s; %s' % (question.asked_in, OTHER_PLACES if question.implied else '-A asks about the whole cluster')
         yield 'a server asks about %s in the namespace of the %s, so %s' % (
             question.verb, question.place_of, 'the RoleBindings of all namespaces count' if question.anywhere else about)
 
@@ -172,7 +172,7 @@ def on_implied(asking: Asking) -> Iterator[str]:
     """The namespace is that of the context."""
     question = asking.question
     if question.asked_in and question.implied and not question.place_of:
-        yield 'the question is about the namespace %s; %s' % (question.implied, ELSEWHERE)
+        yield 'the question is about the namespace %s; %s' % (question.implied, OTHER_PLACES)
 
 
 def on_namespace(asking: Asking) -> Iterator[str]:
