@@ -175,11 +175,6 @@ def home_of(item: Item) -> str:
     return text_in(item, 'metadata', 'namespace') or 'default' if item['kind'] in NAMESPACED else ''
 
 
-def place_of(binding: Item) -> tuple[str, bytes, bytes]:
-    """What orders bindings."""
-    return binding['kind'], bytes_of(home_of(binding)), bytes_of(text_in(binding, 'metadata', 'name'))
-
-
 class Pair:
     """Two states, and what stands for what in those that are made up: each made-up name begins with a letter that no text of theirs has."""
 
@@ -188,7 +183,8 @@ class Pair:
         text = json.dumps([[*state.objects.values()] for state in states], ensure_ascii=False)
         self.letter = next(one for one in map(chr, range(0xe000, 0xf900)) if one not in text)
         bindings = {key: item for state in states for key, item in state.of(BINDINGS).items()}
-        self.bindings = sorted(bindings, key=lambda key: place_of(bindings[key]))
+        self.bindings = sorted(bindings, key=lambda key: (bindings[key]['kind'], bytes_of(home_of(bindings[key])),
+                                                          bytes_of(text_in(bindings[key], 'metadata', 'name'))))
         self.selections: dict[tuple[str, str], str] = {}    # the made-up resource of each selector of each aggregated role
         own = [key for state in states for item in state.own for key in [key_of_item(item)] if selectors_of(item)]
         of_manifests = [key_of_item(item) for state in states for item in state.manifests.items if is_of_rbac(item) and item['kind'] in ROLES]
@@ -243,9 +239,9 @@ class Pair:
             if key in roles:
                 is_other = is_after and self.has_other_labels(key)
                 subjects = [{'kind': 'User', 'name': '%d%s' % (number, self.letter * is_other)}]
-                yield from self.had(key, roles[key], '%d' % number, subjects)
+                yield from self.bindings_to(key, roles[key], '%d' % number, subjects)
 
-    def had(self, key: str, role: Item, name: str, subjects: Any) -> Iterator[Item]:
+    def bindings_to(self, key: str, role: Item, name: str, subjects: Any) -> Iterator[Item]:
         """The bindings by which somebody has a role, in the whole cluster or in its namespace."""
         yield self.bound(name, text_in(role, 'metadata', 'name'), home_of(role), subjects, role['kind'])
         if selectors_of(role):

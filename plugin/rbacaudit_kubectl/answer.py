@@ -5,20 +5,19 @@ from __future__ import annotations
 import json
 import os
 import re
-from collections.abc import Iterable, Iterator
+from collections.abc import Callable, Iterable, Iterator
 from dataclasses import dataclass, field
 
 from .escapes import bytes_of, text_of
 from .export import Export, look_at_about, open_export
 from .options import Options
-from .processes import PIPE, Done, Session
+from .processes import PIPE, Child, Done, Session
 from .question import Question, choose_namespace
 from .terminal import Ended, is_terminal, print_text
 
 TYPE_CHECKING = False
 if TYPE_CHECKING:
     from .manifests import Manifests
-    from .processes import Child
 
 FAULT = re.compile(r'^rbacaudit: file (\d+)(?: item (\d+))?(?:: (.*)| .*)$', re.M)
 MOST_COUNTED = 1000000
@@ -91,20 +90,24 @@ def name_file(asking: Asking, path: str, found: re.Match[str]) -> None:
 
 def ask_shown(asking: Asking, line: list[str], files: list[str], counts: Counts | None = None) -> int:
     """Asks, and shows what rbacaudit prints as it comes; the status."""
-    session, shown = asking.session, 0
+    is_plain = counts is None and asking.options.format == 'tsv' and not is_terminal(1)
+    status, shown = ask_as_it_comes(asking, line, files, None if is_plain else lambda child: show_lines(asking, lines_of(child, counts)))
+    return max(status, shown) if status <= 1 else status
+
+
+def ask_as_it_comes(asking: Asking, line: list[str], files: list[str], take: Callable[[Child], int] | None) -> tuple[int, int]:
+    """Asks, and lets a filter take what rbacaudit prints as it comes, or nobody; both statuses."""
+    session = asking.session
     with open(session.path('said'), 'w+b') as said:
-        if counts is None and asking.options.format == 'tsv' and not is_terminal(1):
-            status = session.run(['rbacaudit', *line], stderr=said)
-        else:
-            child = session.start(['rbacaudit', *line], stdout=PIPE, stderr=said)
-            shown = show_lines(asking, lines_of(child, counts))
-            status = session.end(child)
+        child = session.start(['rbacaudit', *line], stdout=PIPE if take else None, stderr=said)
+        taken = take(child) if take else 0
+        status = session.end(child)
         said.seek(0)
         text = text_of(said.read())
     # (a filter that has ended takes no more lines)
-    if not shown or not text.startswith('rbacaudit: write failed'):
+    if not taken or not text.startswith('rbacaudit: write failed'):
         report_fault(asking, text, files)
-    return max(status, shown) if status <= 1 else status
+    return status, taken
 
 
 def lines_of(child: Child, counts: Counts | None = None) -> Iterator[bytes]:

@@ -8,13 +8,13 @@ import re
 from collections.abc import Iterator
 
 from . import page
-from .answer import Asking, ask_well, lines_of, report_fault
-from .escapes import printable, text_of
+from .answer import Asking, ask_as_it_comes, ask_well, lines_of
+from .escapes import printable
 from .export import open_export, write_about
 from .fields import has_name, in_field
 from .listed import Type, list_types, make_universe
 from .options import read_options
-from .processes import PIPE, Session
+from .processes import Session
 from .question import Question, check_cluster
 from .remarks import look_for_universes, on_namespace, stale_in
 from .terminal import Refused, is_terminal
@@ -61,21 +61,9 @@ def write_page(asking: Asking) -> int:
               if pair[1]]
     place = {'namespaces': ['', options.namespace]} if options.namespace else {}
     document = json.dumps({'apiVersion': 'rbacaudit/v1', 'kind': 'Universe', **place})
-    return write_rows(asking, [*given, session.write('place.json', document), *asking.files()], words)
-
-
-def write_rows(asking: Asking, files: list[str], words: list[str]) -> int:
-    """Runs rbacaudit, whose rows the page takes as they come. It is no fault of theirs that the page took no more of them."""
-    session = asking.session
-    with open(session.path('said'), 'w+b') as said:
-        child = session.start(['rbacaudit', 'matrix', '--once', *['--every'] * asking.options.every, '--', *files], stdout=PIPE, stderr=said)
-        status = page.main(words, lines_of(child))
-        session.end(child)
-        said.seek(0)
-        text = text_of(said.read())
-    if status and not text.startswith('rbacaudit: write failed'):
-        report_fault(asking, text, files)
-    return status
+    files = [*given, session.write('place.json', document), *asking.files()]
+    line = ['matrix', '--once', *['--every'] * options.every, '--', *files]
+    return ask_as_it_comes(asking, line, files, lambda child: page.main(words, lines_of(child)))[1]
 
 
 def notices(asking: Asking, stale: str) -> Iterator[str]:
