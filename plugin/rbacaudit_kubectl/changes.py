@@ -136,9 +136,11 @@ def keep_labels(asking: Asking, put: Manifests, files: list[str]) -> None:
     kept = []
     for exported in exported_roles(files) if roles else ():
         key = key_of('ClusterRole', '', text_in(exported, 'metadata', 'name'))
-        role = put.items[roles[key]] if key in roles else {}
+        if key not in roles:
+            continue
+        role = put.items[roles[key]]
         ours = {**labels_of(read_json(text_in(exported, 'metadata', 'annotations', APPLIED))), **labels_of(role)}
-        theirs = {name: value for name, value in labels_of(exported).items() if name not in ours} if role else {}
+        theirs = {name: value for name, value in labels_of(exported).items() if name not in ours}
         if theirs:
             role['metadata'] = {**role['metadata'], 'labels': {**labels_of(role), **theirs}}
             put.texts[roles[key]] = json.dumps(role, indent=4, ensure_ascii=False)

@@ -1,8 +1,8 @@
 """kubectl rbacaudit: exports what rbacaudit reads from a cluster, and asks rbacaudit about it.
 
 kubectl is called with `get`, `config view` and `patch --local`, which reads manifests without a cluster. No answer depends on a document
-that is taken apart here, but for the namespace that -n adds to manifests, and for what is made up beside manifests alone (alone.py):
-where types matter, rbacaudit itself lists them and says which a word means, so no label and no name can mislead.
+that is taken apart here, but for the namespace that -n adds to manifests, the labels that kubectl apply leaves (changes.py), and what is
+made up beside manifests alone (alone.py): where types matter, rbacaudit itself lists them and says which a word means, so no name can mislead.
 """
 
 from __future__ import annotations

@@ -213,7 +213,7 @@ def look_for_universes(session: Session, files: list[str], once: bool) -> None:
 
 def look_for_universe(session: Session, path: str, named: str = '', idle: bool = False) -> list[str]:
     """Reports what of a file is meant for a universe, and is ignored: in a change, all of it is. The namespaces that it lists."""
-    text = read_text(path) or ''
+    text = read_text(path)
     documents = [*documents_in(read_document(path))] if 'rbacaudit' in text or '"Universe"' in text else []
     for line in dict.fromkeys(line for document in documents for line in universe_faults(document, idle)):
         session.report('%s: %s' % (named or path, line))
