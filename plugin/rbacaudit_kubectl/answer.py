@@ -13,7 +13,7 @@ from .export import Export, look_at_about, open_export
 from .options import Options
 from .processes import PIPE, Child, Done, Session
 from .question import Question, choose_namespace
-from .terminal import Ended, is_terminal, print_text
+from .terminal import Ended, print_text
 
 TYPE_CHECKING = False
 if TYPE_CHECKING:
@@ -90,7 +90,7 @@ def name_file(asking: Asking, path: str, found: re.Match[str]) -> None:
 
 def ask_shown(asking: Asking, line: list[str], files: list[str], counts: Counts | None = None) -> int:
     """Asks, and shows what rbacaudit prints as it comes; the status."""
-    is_plain = counts is None and asking.options.format == 'tsv' and not is_terminal(1)
+    is_plain = counts is None and asking.options.format == 'tsv' and not os.isatty(1)
     status, shown = ask_as_it_comes(asking, line, files, None if is_plain else lambda child: show_lines(asking, lines_of(child, counts)))
     return max(status, shown) if status <= 1 else status
 
@@ -130,7 +130,7 @@ def show_lines(asking: Asking, lines: Iterable[bytes], rules: str | None = None)
     if options.format in ('table', 'wide', 'json', 'name'):
         from .show import show
         return show(lines, options.format, headers=not options.headless, color=options.color or 'auto', rules=rules)
-    if is_terminal(1):
+    if os.isatty(1):
         for line in lines:
             print_text(text_of(line))
     else:

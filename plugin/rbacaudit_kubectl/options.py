@@ -2,10 +2,11 @@
 
 from __future__ import annotations
 
+import os
 from collections.abc import Iterator
 from dataclasses import dataclass
 
-from .terminal import Ended, Refused, is_terminal, print_text
+from .terminal import Ended, Refused, print_text
 
 
 @dataclass(frozen=True)
@@ -217,6 +218,6 @@ def formats_of(command: str) -> tuple[str, ...]:
 
 def choose_format(options: Options, said_of: str) -> None:
     """Checks the format, before anything is read. Without -o it is a table on a terminal."""
-    options.format, known = options.format or ('table' if is_terminal(1) else 'tsv'), formats_of(said_of)
+    options.format, known = options.format or ('table' if os.isatty(1) else 'tsv'), formats_of(said_of)
     if options.format not in known:
         raise Refused('%s has no format %s: -o takes %s or %s' % (said_of, options.format, ', '.join(known[:-1]), known[-1]))

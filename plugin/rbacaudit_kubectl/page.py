@@ -22,7 +22,7 @@ from contextlib import suppress
 
 from .escapes import escape_title, script_class
 from .fields import BINDING, FIELD, PRINCIPAL, ROLE, STEP
-from .terminal import Progress, Refused, is_terminal, report
+from .terminal import Progress, Refused, report
 
 PROGRAM = 'rbacaudit-page'
 MOST_ROWS = 500_000
@@ -136,7 +136,7 @@ def made(given: argparse.Namespace, lines: Iterable[bytes] | None) -> str:
     """What is to be written: the watch list, or the page of what is read."""
     if given.watched:
         return ''.join('\t'.join(pair) + '\n' for pair in watched())
-    if lines is None and is_terminal(0) or given.output is None and is_terminal(1):
+    if lines is None and os.isatty(0) or given.output is None and os.isatty(1):
         raise Refused('rows come from a pipe or a file, and the page goes into a file: '
                       'rbacaudit matrix --once *.json | rbacaudit-page --output access.html')
     # (a file that can't be written is refused before rows are read for it)

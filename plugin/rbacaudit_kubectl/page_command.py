@@ -17,7 +17,7 @@ from .options import read_options
 from .processes import Session
 from .question import Question, check_cluster
 from .remarks import look_for_universes, on_namespace, stale_in
-from .terminal import Refused, is_terminal
+from .terminal import Refused
 
 # A rule with resourceNames, perhaps with a letter of it as an escape.
 NAMES = re.compile(rb'"resourceNames"|\\u00([46][0-9A-Fa-f]|[57][0-9Aa])')
@@ -26,7 +26,7 @@ NAMES = re.compile(rb'"resourceNames"|\\u00([46][0-9A-Fa-f]|[57][0-9Aa])')
 def page_command(session: Session, words: list[str]) -> int:
     """The command page."""
     options = read_options('page', words)
-    if not options.output and is_terminal(1):
+    if not options.output and os.isatty(1):
         raise Refused('the page goes into a file: kubectl rbacaudit page --output access.html')
     session.need_rbacaudit()
     check_cluster(session, options)

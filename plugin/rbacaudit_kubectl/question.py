@@ -2,9 +2,11 @@
 
 from __future__ import annotations
 
+import os
+
 from .options import COMMANDS, PASSED, Option, Options, Token, choose_format, tokens_of
 from .processes import NOTHING, Session
-from .terminal import Ended, Refused, is_terminal, print_text
+from .terminal import Ended, Refused, print_text
 
 ROLES = ['cluster.json', 'namespaced.json']
 PARTS = {'rules': ROLES, 'powers': ROLES, 'lint': ROLES, 'diff': ROLES, 'paths': [*ROLES, 'accounts.json'],
@@ -147,7 +149,7 @@ def question_command(session: Session, command: str, words: list[str]) -> int:
         return status
     choose_format(options, command)
     # (whoever reads a no asks next why)
-    if command == 'can-i' and options.format in ('table', 'wide') and is_terminal(1) and not (question.quiet or question.why_not):
+    if command == 'can-i' and options.format in ('table', 'wide') and os.isatty(1) and not (question.quiet or question.why_not):
         question.words.insert(0, '--why-not')
     # (lint of manifests reads neither a cluster nor an export)
     alone = command == 'lint' and not options.export and bool(question.files)

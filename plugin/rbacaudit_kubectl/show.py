@@ -16,7 +16,7 @@ from .escapes import bytes_of, escaped
 from .escapes import text_of as text_of_bytes
 from .fields import LACKS, NUMBER, REMARK, SHAPES, Row, Shape, text_of, words_of
 from .table import Table
-from .terminal import Ended, Refused, has_colors, is_terminal, print_text, report
+from .terminal import Ended, Refused, has_colors, print_text, report
 
 PROGRAM = 'rbacaudit-show'
 CHOICES = {'-o': ('format', 'table', 'wide', 'json', 'name'), '--color': ('color', 'auto', 'always', 'never')}
@@ -182,7 +182,7 @@ def check_values(found: Mapping[str, str]) -> None:
 def show(lines: Iterable[bytes], form: str, *, headers: bool = True, color: str = 'auto', rules: str | None = None,
          indirect: bool = False) -> int:
     """Writes lines in a form, as they come, and gives the status. `rules` are lines of rules for a table."""
-    reader, on_terminal = Reader(indirect), is_terminal(1)
+    reader, on_terminal = Reader(indirect), os.isatty(1)
     given = (text_of_bytes(line).removesuffix('\n') for line in lines)
     if form == 'json':
         texts = objects_of(reader.rows_of(given))
@@ -218,7 +218,7 @@ def lines_in(number: int) -> Iterator[bytes]:
 def run(words: Sequence[str]) -> int:
     """Shows what standard input has."""
     options, rules = read_options(words), ''
-    if is_terminal(0):
+    if os.isatty(0):
         raise Refused('lines come from a pipe or a file: rbacaudit rules u:kim *.json | rbacaudit-show')
     if options['--rules']:
         with open(options['--rules'], encoding='utf-8', errors='surrogateescape', newline='\n') as file:
