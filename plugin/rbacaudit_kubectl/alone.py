@@ -18,7 +18,7 @@ from typing import Any, List
 
 from .answer import Asking, ask, ask_well, show_text
 from .changes import show_rows, take_side
-from .documents import first_three, read_text, text_in
+from .documents import first_three, list_in, read_text, text_in
 from .escapes import bytes_of
 from .fields import ELSEWHERE, WHAT, in_key, rows_of
 from .kubectl import RBAC
@@ -147,9 +147,7 @@ def grant_of(state: State, key: str) -> tuple[str, list[str]] | None:
 
 def selectors_of(role: Item) -> list[Any]:
     """The selectors of an aggregated cluster role."""
-    rule = role.get('aggregationRule') if role['kind'] == 'ClusterRole' else None
-    found = rule.get('clusterRoleSelectors') if isinstance(rule, dict) else None
-    return found if isinstance(found, list) else []
+    return list_in(role.get('aggregationRule'), 'clusterRoleSelectors') if role['kind'] == 'ClusterRole' else []
 
 
 def without(own: list[Item], manifests: Manifests) -> list[Item]:

@@ -6,7 +6,7 @@ import json
 from collections.abc import Iterator
 
 from .answer import Asking, ask, ask_shown, show_text
-from .documents import first_three, item_of, read_document, read_json, text_in
+from .documents import first_three, item_of, list_in, read_document, read_json, text_in
 from .escapes import bytes_of
 from .export import open_export
 from .fields import STEP_NAMES, is_gathered, powers_of, rows_of
@@ -15,7 +15,7 @@ from .manifests import (Item, Manifests, check_inputs, check_namespace, is_of_rb
 from .options import Options, choose_format, read_options
 from .processes import Session
 from .question import Question, check_cluster
-from .remarks import find_stale, list_in, look_for_universe
+from .remarks import find_stale, look_for_universe
 from .terminal import Refused
 
 # Where kubectl apply keeps what it has applied.

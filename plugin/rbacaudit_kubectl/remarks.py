@@ -10,7 +10,7 @@ from dataclasses import dataclass, field
 from typing import Any
 
 from .answer import Asking
-from .documents import first_of, read_document, read_text, text_in, told
+from .documents import first_of, list_in, read_document, read_text, text_in, told
 from .fields import in_field, in_key, rows_of
 from .kubectl import RBAC
 from .listed import V1, Lists, Type
@@ -195,12 +195,6 @@ def list_there(asking: Asking, name: str, field: str) -> list[Any] | None:
 def documents_in(value: Any) -> Iterator[dict[str, Any]]:
     """The items of a list, or the document itself."""
     yield from (one for one in (list_in(value, 'items') or [value]) if isinstance(one, dict))
-
-
-def list_in(value: Any, name: str) -> list[Any]:
-    """A list in an object, or none."""
-    found = value.get(name) if isinstance(value, dict) else None
-    return found if isinstance(found, list) else []
 
 
 def look_for_universes(session: Session, files: list[str], once: bool) -> None:
