@@ -1,12 +1,12 @@
-"""Manifests alone, without an export and without a cluster: lint and diff of them, beside the objects that Kubernetes itself makes.
+"""Manifests alone, without an export and without a cluster: lint and diff, beside the objects that every cluster has.
 
-Kubernetes' own cluster roles and bindings are in every cluster: what a server of 1.20 made, with the rows that newer versions add.
+Every cluster has Kubernetes' own cluster roles and bindings: those that a server of 1.20 made, with the rules that newer versions add to `edit`,
+`view` and `system:basic-user`.
 
-What a change of manifests alone does elsewhere in the cluster: to whoever has a role of theirs there, and by what aggregated roles gather there.
-
-The cluster may bind each role of the manifests to others, and its roles may gather it; and what an aggregated role selects there, nobody knows. So
-rbacaudit is asked about two made-up pairs of states. In the first, beside each binding to an aggregated role stands another of the same subjects to
-a made-up role: what the aggregated role gathers elsewhere. In the second, there are roles alone, each bound to a user of its own: whoever has it.
+The cluster may bind each role of the manifests to others, and aggregated roles of its own may gather it. Nobody knows what an aggregated role of the
+manifests gathers there. So diff asks rbacaudit about two made-up pairs of states. In the first, each binding to an aggregated role has another beside
+it, of the same subjects to a made-up role: what the aggregated role gathers elsewhere. In the second, each role is bound to a user of its own: whoever
+has the role elsewhere.
 """
 
 from __future__ import annotations
