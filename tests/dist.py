@@ -559,7 +559,7 @@ LEFT = 'review.md', 'summary.md', 'quality.json', '../results/lint.sarif', '../r
 
 def hostile(room, address, reads, shells, links, status=1):
     """A job runs nothing of the change, writes through no link of it, and reads what kubectl reads."""
-    folder = room.at('hostile' + str(len(links)))
+    folder = room.at('hostile-' + re.sub(r'\W', '-', reads))
     git(room.path, 'clone', '-q', address, folder)
     git(folder, 'checkout', '-q', '-b', 'hostile', 'origin/main')
     programs = [os.path.join(place, name) for place in ('rbacaudit-0/bin', 'rbacaudit-0.1.0-x86_64-linux/bin', 'bin', 'main')
