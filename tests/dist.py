@@ -512,7 +512,7 @@ class Job:
         self.environment = room.without_kit(
             room.at('job-tools'), **GIT, ARCHIVE='https://downloads.example.com/' + ARCHIVE,
             GITHUB_BASE_REF='main',
-            GITHUB_STEP_SUMMARY=self.summary, CI_MERGE_REQUEST_TARGET_BRANCH_NAME='main',
+            GITHUB_STEP_SUMMARY=self.summary, RUNNER_TEMP=self.folder, CI_MERGE_REQUEST_TARGET_BRANCH_NAME='main',
             SHA256=sum_of(room.made(ARCHIVE)))
 
     def run(self, shell, **more):
@@ -553,13 +553,17 @@ HOSTILE = '''{"apiVersion": "rbac.authorization.k8s.io/v1", "kind": "ClusterRole
 OWN_PROGRAM = '#!/bin/sh\necho ran >> ../ran\n'
 
 
-def hostile(room, address, reads, shells, links):
+# What a job leaves, beside its log and its summary.
+LEFT = 'review.md', 'summary.md', 'quality.json', '../results/lint.sarif', '../results/diff.sarif'
+
+
+def hostile(room, address, reads, shells, links, status=1):
     """A job runs nothing of the change, writes through no link of it, and reads what kubectl reads."""
-    folder = room.at('hostile' + str(len(links)))
+    folder = room.at('hostile-' + re.sub(r'\W', '-', reads))
     git(room.path, 'clone', '-q', address, folder)
     git(folder, 'checkout', '-q', '-b', 'hostile', 'origin/main')
     programs = [os.path.join(place, name) for place in ('rbacaudit-0/bin', 'rbacaudit-0.1.0-x86_64-linux/bin', 'bin', 'main')
-                for name in ('git', 'kubectl', 'kubectl-rbacaudit', 'rbacaudit', 'tr', 'sed', 'review.sh', 'summary.sh')]
+                for name in ('git', 'kubectl', 'kubectl-rbacaudit', 'rbacaudit', 'tr', 'sed', 'jq', 'review.sh', 'summary.sh', 'quality.sh')]
     for name, text in [*((name, OWN_PROGRAM) for name in programs), ('rbac/.hidden.json', HOSTILE % ('hidden', 'eve')), ('rbac/in/.x/y.yaml', HOSTILE % ('within', 'x\u202ey')),
                        ('main/rbac/all.json', HOSTILE % ('main', 'eve')), ('rbacaudit.tar.gz', 'no archive')]:
         os.makedirs(os.path.dirname(os.path.join(folder, name)), exist_ok=True)
@@ -574,8 +578,8 @@ def hostile(room, address, reads, shells, links):
         job = Job(room, address, 'hostile')
         write('safe', job.folder, 'stolen')
         got = job.run(shell, **({'GITHUB_STEP_SUMMARY': ''} if name == 'GitLab' else {}))
-        told = got[1] + (job.told() or '') + ''.join(bytes_of(job.work, file).decode() for file in ('review.md', 'summary.md') if os.path.isfile(os.path.join(job.work, file)))
-        holds('%s, a hostile change of %s: nothing of it runs' % (name, reads), not os.path.exists(os.path.join(job.folder, 'ran')) and got[0] == 1, got)
+        told = got[1] + (job.told() or '') + ''.join(bytes_of(job.work, file).decode() for file in LEFT if os.path.isfile(os.path.join(job.work, file)))
+        holds('%s, a hostile change of %s: nothing of it runs' % (name, reads), not os.path.exists(os.path.join(job.folder, 'ran')) and got[0] == status, got)
         holds('%s, a hostile change of %s: no link is written through' % (name, reads), bytes_of(job.folder, 'stolen') == b'safe', bytes_of(job.folder, 'stolen'))
         holds('%s, a hostile change of %s: all files are read' % (name, reads), 'ClusterRoleBinding/hidden' in told and 'ClusterRoleBinding/within' in told, told)
         holds('%s, a hostile change of %s: nothing hides' % (name, reads), '\u202e' not in told, told)
@@ -648,6 +652,57 @@ def manifests(room):
     hostile(room, address, 'manifests', (github, gitlab), ('summary.md', 'summary', 'log', 'changes'))
 
 
+# Where the results of lint and of diff are: in `more`, in `less`, and of a role that Kubernetes' view gathers.
+SHOWN = {'more': ([], [('gained-permission', 'rbac/deployer.yaml', 5)]), 'less': ([('L2', 'rbac/support.yaml', 5)], [('lost-permission', 'rbac/support.yaml', 15)]),
+         'view': ([('L2', 'rbac/view.yaml', 4)], [('gained-permission', 'rbac/view.yaml', 4)])}
+OF_VIEW = """apiVersion: rbac.authorization.k8s.io/v1
+kind: ClusterRole
+metadata:
+  name: more
+  labels: {rbac.authorization.k8s.io/aggregate-to-view: "true"}
+rules:
+- {apiGroups: [''], resources: [nodes], verbs: [delete]}
+"""
+
+
+def places_in(path):
+    """The rule, file and line of each result in a file of SARIF, if it is there."""
+    if not os.path.exists(path):
+        return None
+    found = [(it['ruleId'], it['locations'][0]['physicalLocation']) for it in json.loads(bytes_of(path))['runs'][0]['results']]
+    return [(rule, where['artifactLocation']['uri'], where['region']['startLine']) for rule, where in found]
+
+
+def scanning(room):
+    """The jobs that show results beside a change: each result has a file of the repository, and a line."""
+    if not has_kubectl(room):
+        return
+    if not shutil.which('jq') or yaml is None:
+        skipped('jq and PyYAML', 'the jobs of code scanning')
+        return
+    for tool in ('jq', 'mkdir'):
+        if not os.path.exists(room.at('job-tools', tool)):
+            os.symlink(shutil.which(tool), room.at('job-tools', tool))
+    folder = shutil.copytree(os.path.join(TOP, 'examples/manifests/main'), room.at('scanned') + '/rbac') + '/..'
+    run(['bash', '-c', next(command for command, _ in steps(text_of('docs', 'RECIPES.md')) if command.startswith('cat > quality.sh '))], folder)
+    less = text_of('examples/manifests/main/support.yaml').partition('---\n')[0]
+    address = with_branches(os.path.normpath(folder), {'more': {'rbac/deployer.yaml': text_of('examples/manifests/change/deployer.yaml')},
+                                                       'less': {'rbac/support.yaml': less}, 'view': {'rbac/view.yaml': OF_VIEW}})
+    github, gitlab = shell_parts(*jobs_below('Shown beside the change'))
+    for branch, shown in SHOWN.items():
+        job = Job(room, address, branch)
+        got = job.run(github)
+        found = tuple(places_in(os.path.join(job.folder, 'results', name)) for name in ('lint.sarif', 'diff.sarif'))
+        holds('GitHub, code scanning: ' + branch, got[0] == 0 and found == shown, (got, found))
+        job = Job(room, address, branch)
+        got = job.run(gitlab)
+        path = os.path.join(job.work, 'quality.json')
+        listed = json.loads(bytes_of(path)) if os.path.exists(path) else []
+        holds('GitLab, code quality: ' + branch, got[0] == 0 and [(it['check_name'], it['location']['path'], it['location']['lines']['begin'])
+                                                                  for it in listed] == shown[1], (got, listed))
+    hostile(room, address, 'code scanning', (github, gitlab), ('quality.json', 'results', 'diff.sarif', 'lint.sarif', 'quality'), status=0)
+
+
 def all_of_it():
     for tool in ('git', 'readelf', 'strip'):
         if not shutil.which(tool):
@@ -656,7 +711,7 @@ def all_of_it():
     with tempfile.TemporaryDirectory() as path:
         room = Room(path)
         packed(room)
-        parts = entries, proved, refusals, instant, installed, as_told, containerfile, krew, jobs, manifests
+        parts = entries, proved, refusals, instant, installed, as_told, containerfile, krew, jobs, manifests, scanning
         for part in parts if all(results) else ():
             part(room)
 

@@ -72,6 +72,10 @@ def kustomizations(it):
     put(it, {'new/kustomization.yaml': json.dumps({'resources': ['r.json', 'in/b.yaml', 'base', 'xall.json']}), 'new/xall.json': role('y', 'a')})
     got = without_cluster(it, 'read', 'new')
     it.checked('a name that ends as another', RENDERED % ('new', '; it leaves out these files: new/all.json, new/in/all.json') in got[2], got)
+    if yaml is not None:
+        put(it, {'new/kustomization.yaml': '# all.json\nresources:\n- r.json\n- in/b.yaml # in/all.json\n#- xall.json\n- base\n'})
+        got = without_cluster(it, 'read', 'new')
+        it.checked('names in comments', RENDERED % ('new', '; it leaves out these files: new/all.json, new/in/all.json, new/xall.json') in got[2], got)
 
 
 ODD = ('kubectl-rbacaudit: %s has more than --- on a line with which a document begins (line %s): older versions of kubectl drop such a document\n')

@@ -459,8 +459,8 @@ print(json.dumps([[name, verb, type_, where, has_name(verb, type_)] for name, ve
 '''
 SUMMARY_OF = '''import sys
 sys.path.insert(0, sys.argv[1])
-from rbacaudit_kubectl.summary import summarize
-print(summarize([line.split(chr(9)) for line in sys.stdin.read().splitlines()])[0], end='')
+from rbacaudit_kubectl.changes import summarize
+print(summarize([line.split(chr(9)) for line in sys.stdin.read().splitlines()]), end='')
 '''
 
 

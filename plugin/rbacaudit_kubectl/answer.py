@@ -5,21 +5,19 @@ from __future__ import annotations
 import json
 import os
 import re
-from collections.abc import Iterable, Iterator
+from collections.abc import Callable, Iterable, Iterator
 from dataclasses import dataclass, field
 
-from .errors import Ended
 from .escapes import bytes_of, text_of
 from .export import Export, look_at_about, open_export
 from .options import Options
-from .processes import PIPE, Done, Session
+from .processes import PIPE, Child, Done, Session
 from .question import Question, choose_namespace
-from .terminal import is_terminal, print_text
+from .terminal import Ended, print_text
 
 TYPE_CHECKING = False
 if TYPE_CHECKING:
     from .manifests import Manifests
-    from .processes import Child
 
 FAULT = re.compile(r'^rbacaudit: file (\d+)(?: item (\d+))?(?:: (.*)| .*)$', re.M)
 MOST_COUNTED = 1000000
@@ -92,20 +90,24 @@ def name_file(asking: Asking, path: str, found: re.Match[str]) -> None:
 
 def ask_shown(asking: Asking, line: list[str], files: list[str], counts: Counts | None = None) -> int:
     """Asks, and shows what rbacaudit prints as it comes; the status."""
-    session, shown = asking.session, 0
+    is_plain = counts is None and asking.options.format == 'tsv' and not os.isatty(1)
+    status, shown = ask_as_it_comes(asking, line, files, None if is_plain else lambda child: show_lines(asking, lines_of(child, counts)))
+    return max(status, shown) if status <= 1 else status
+
+
+def ask_as_it_comes(asking: Asking, line: list[str], files: list[str], take: Callable[[Child], int] | None) -> tuple[int, int]:
+    """Asks, and lets a filter take what rbacaudit prints as it comes, or nobody; both statuses."""
+    session = asking.session
     with open(session.path('said'), 'w+b') as said:
-        if counts is None and asking.options.format == 'tsv' and not is_terminal(1):
-            status = session.run(['rbacaudit', *line], stderr=said)
-        else:
-            child = session.start(['rbacaudit', *line], stdout=PIPE, stderr=said)
-            shown = show_lines(asking, lines_of(child, counts))
-            status = session.end(child)
+        child = session.start(['rbacaudit', *line], stdout=PIPE if take else None, stderr=said)
+        taken = take(child) if take else 0
+        status = session.end(child)
         said.seek(0)
         text = text_of(said.read())
     # (a filter that has ended takes no more lines)
-    if not shown or not text.startswith('rbacaudit: write failed'):
+    if not taken or not text.startswith('rbacaudit: write failed'):
         report_fault(asking, text, files)
-    return max(status, shown) if status <= 1 else status
+    return status, taken
 
 
 def lines_of(child: Child, counts: Counts | None = None) -> Iterator[bytes]:
@@ -128,7 +130,7 @@ def show_lines(asking: Asking, lines: Iterable[bytes], rules: str | None = None)
     if options.format in ('table', 'wide', 'json', 'name'):
         from .show import show
         return show(lines, options.format, headers=not options.headless, color=options.color or 'auto', rules=rules)
-    if is_terminal(1):
+    if os.isatty(1):
         for line in lines:
             print_text(text_of(line))
     else:
@@ -179,22 +181,22 @@ def answer(asking: Asking) -> int:
     files = [*question.files, *asking.files()]
     line = [*question.line, *files]
     if question.command != 'lint':
-        from .stale import find_stale
-        stale = find_stale(asking)
+        from .remarks import find_stale
+        stale = ', '.join(find_stale(asking))
     has_words = question.why and question.command in ('can-i', 'who-can') and form in ('table', 'wide')
     if form == 'sarif' or has_words or (stale and question.command in ('who-can', 'rules', 'powers', 'paths')):
         done = ask(asking, line, files)
         text = done.out
         if form == 'sarif' and done.status <= 1:
+            from .fields import rows_of
             from .sarif import of_lint
-            from .stale import rows_of
             text = of_lint(asking, rows_of(text))
         status = show_text(asking, text, find_rules(asking, done) if has_words and not done.status else None) or done.status
     else:
         status = list_rows(asking, line, files) if question.command == 'matrix' else ask_shown(asking, line, files)
         done = Done(status)
     if stale and status <= 1:
-        from .stale import remark_on_stale
+        from .remarks import remark_on_stale
         remark_on_stale(asking, stale, line, files, done)
     return status
 

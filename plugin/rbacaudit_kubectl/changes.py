@@ -2,25 +2,29 @@
 
 from __future__ import annotations
 
+import json
+from collections.abc import Iterator
+
 from .answer import Asking, ask, ask_shown, show_text
-from .errors import Refused
+from .documents import first_three, item_of, list_in, read_document, read_json, text_in
+from .escapes import bytes_of
 from .export import open_export
-from .help import help_of
-from .manifests import Item, Manifests, check_inputs, check_namespace, is_of_rbac, key_of_item, name_path, need_held, take_manifests
+from .fields import STEP_NAMES, is_gathered, powers_of, rows_of
+from .manifests import (Item, Manifests, check_inputs, check_namespace, is_of_rbac, key_of, key_of_item, labels_of, list_text, name_path,
+                        need_held, take_manifests)
 from .options import Options, choose_format, read_options
 from .processes import Session
 from .question import Question, check_cluster
-from .remarks import first_three, look_for_universe
-from .stale import find_roles, rows_of
-from .terminal import print_text
+from .remarks import find_stale, look_for_universe
+from .terminal import Refused
+
+# Where kubectl apply keeps what it has applied.
+APPLIED = 'kubectl.kubernetes.io/last-applied-configuration'
 
 
 def diff_command(session: Session, words: list[str]) -> int:
     """kubectl rbacaudit diff."""
     options = read_options('diff', words)
-    if options.help:
-        print_text(help_of('diff'))
-        return 0
     choose_format(options, 'diff --summary' if options.summary else 'diff')
     session.need_rbacaudit()
     check_sides(options)
@@ -31,7 +35,7 @@ def diff_command(session: Session, words: list[str]) -> int:
     check_cluster(session, options, is_alone, reads=len(options.exports) < (1 if is_change else 2))
     asking = Asking(session, options, Question('diff'))
     if is_alone:
-        from .states import compare_states
+        from .alone import compare_states
         return compare_states(asking)
     return compare_change(asking) if is_change else compare_exports(asking)
 
@@ -75,7 +79,7 @@ def take_side(asking: Asking, name: str, path: str) -> Manifests:
 def open_side(asking: Asking, folder: str, only_in: str = '') -> tuple[list[str], str, list[str]]:
     """Opens an export, or a fresh one: its files, the namespace that it has alone, and its stale aggregates."""
     export = asking.export = open_export(asking.session, asking.options, asking.question, folder, only_in)
-    stale = find_roles(asking)
+    stale = find_stale(asking)
     if stale:
         asking.session.report('stale aggregates (L6 of lint) in %s: %s; the cluster grants what is written in them, and these lines have '
                               'what they gather' % (export.named, ', '.join(stale)))
@@ -106,14 +110,17 @@ def compare_change(asking: Asking) -> int:
     over = name_path(options.with_) + ' is put over'
     if gone:
         session.report('what %s has is taken from the export%s' % (gone.named, ', and %s it' % over if put else ''))
-        remark_on_absent(asking, gone, files)
+        # (what both have is replaced for lint)
+        both = session.capture(['rbacaudit', 'lint', '--only=L7', *files, gone.file])
+        absent = {key_of_item(item) for item in gone.items if is_of_rbac(item)} - {row[2] for row in rows_of(both.out)}
+        if absent and both.status <= 1:
+            session.report("the export doesn't have these, so nothing is taken away with them: %s" % first_three(absent))
         words += ['--without', gone.file]
     else:
         session.report(over + ' the export: objects that the change deletes still count')
     if put:
-        from .labels import keep_labels
         keep_labels(asking, put, files)
-        made = [role for role in find_roles(asking, put.file) if role not in stale]
+        made = [role for role in find_stale(asking, put.file) if role not in stale]
         if made:
             session.report('this change makes stale aggregates (L6 of lint): %s; a cluster grants what is written in them, for ever if '
                            'they select each other, and these lines have what they gather' % ', '.join(made))
@@ -121,13 +128,35 @@ def compare_change(asking: Asking) -> int:
     return compare(asking, words, gone, put)
 
 
-def remark_on_absent(asking: Asking, gone: Manifests, files: list[str]) -> None:
-    """Reports what of the manifests that are taken away the export doesn't have: what both have is replaced for lint."""
-    both = asking.session.capture(['rbacaudit', 'lint', '--only=L7', *files, gone.file])
-    there = {row[2] for row in rows_of(both.out)}
-    absent = first_three({key_of_item(item) for item in gone.items if is_of_rbac(item)} - there)
-    if absent and both.status <= 1:
-        asking.session.report("the export doesn't have these, so nothing is taken away with them: %s" % absent)
+# ---- labels that a cluster has and manifests haven't: kubectl apply leaves those that it didn't set, and aggregated roles gather by them
+
+def keep_labels(asking: Asking, put: Manifests, files: list[str]) -> None:
+    """Gives the cluster roles of a change the labels that kubectl apply leaves, by the files of an export."""
+    roles = {key_of_item(item): at for at, item in enumerate(put.items) if is_of_rbac(item) and item['kind'] == 'ClusterRole'}
+    kept = []
+    for exported in exported_roles(files) if roles else ():
+        key = key_of('ClusterRole', '', text_in(exported, 'metadata', 'name'))
+        if key not in roles:
+            continue
+        role = put.items[roles[key]]
+        ours = {**labels_of(read_json(text_in(exported, 'metadata', 'annotations', APPLIED))), **labels_of(role)}
+        theirs = {name: value for name, value in labels_of(exported).items() if name not in ours}
+        if theirs:
+            role['metadata'] = {**role['metadata'], 'labels': {**labels_of(role), **theirs}}
+            put.texts[roles[key]] = json.dumps(role, indent=4, ensure_ascii=False)
+            kept.append('%s (%s)' % (key, ', '.join(theirs)))
+    if kept:
+        put.file = asking.session.write('manifests-with.json', list_text(put.texts))
+        asking.session.report('kubectl apply leaves labels that only the cluster has: %s' % first_three(kept))
+
+
+def exported_roles(files: list[str]) -> Iterator[Item]:
+    """The cluster roles of an export."""
+    for document in map(read_document, files):
+        for number in range(len(list_in(document, 'items'))):
+            item, kind = item_of(document, number + 1)
+            if kind == 'ClusterRole':
+                yield item
 
 
 # ---- the answer
@@ -144,13 +173,37 @@ def compare(asking: Asking, words: list[str], old: Manifests | None = None, new:
 
 def show_rows(asking: Asking, rows: list[list[str]], old: Manifests | None, new: Manifests | None, own: list[Item] | None = None) -> int:
     """Shows the lines of an answer; the status. Kubernetes' own objects count beside manifests alone."""
-    options, status = asking.options, int(bool(rows))
-    text = ''.join('\t'.join(row) + '\n' for row in rows)
-    if options.summary or options.fail_on:
-        from .summary import summarize
-        summary, total = summarize(rows)
-        text, status = summary if options.summary else text, total.status(options.fail_on)
+    options = asking.options
     if options.format == 'sarif':
         from .sarif import of_diff
         text = of_diff(asking, old, new, rows, own or [])
-    return show_text(asking, text) or status
+    else:
+        text = summarize(rows) if options.summary else ''.join('\t'.join(row) + '\n' for row in rows)
+    return show_text(asking, text) or int(fails(rows, options.fail_on))
+
+
+# ---- how much who gains and loses where, and what --fail-on makes of it
+
+def line_of(about: tuple[str, ...], rows: list[list[str]]) -> str:
+    """The line of a summary: how many permissions are gained and lost, and the powers among them."""
+    sides = [[row for row in rows if row[0] == sign] for sign in '+-']
+    powers = ({power for row in side for power in powers_of('diff', row)} for side in sides)
+    listed = ('[%s]' % ','.join(name for name in STEP_NAMES if name in some) for some in powers)
+    return '\t'.join((*about, *(str(len(side)) for side in sides), *listed)) + '\n'
+
+
+def summarize(rows: list[list[str]]) -> str:
+    """A line for each who, where and binding of lines of diff, and one for all."""
+    groups: dict[tuple[str, ...], list[list[str]]] = {}
+    for row in rows:
+        groups.setdefault((row[1], row[2], row[7]), []).append(row)
+    lines = sorted((line_of(about, some) for about, some in groups.items()), key=bytes_of)
+    return ''.join(lines) + line_of(('total', '-', '-'), rows)
+
+
+def fails(rows: list[list[str]], fail_on: str) -> bool:
+    """Whether there is what --fail-on names. What a role gathers elsewhere may be a power."""
+    gained = [row for row in rows if row[0] == '+']
+    if fail_on == 'powers':
+        return any(powers_of('diff', row) or is_gathered(row) for row in gained)
+    return bool(gained if fail_on == 'gains' else rows)

@@ -1,20 +1,18 @@
 """kubectl rbacaudit: exports what rbacaudit reads from a cluster, and asks rbacaudit about it.
 
 kubectl is called with `get`, `config view` and `patch --local`, which reads manifests without a cluster. No answer depends on a document
-that is taken apart here, but for the namespace that -n adds to manifests, and for what is made up beside manifests alone (elsewhere.py):
-where types matter, rbacaudit itself lists them and says which a word means, so no label and no name can mislead.
+that is taken apart here, but for the namespace that -n adds to manifests, the labels that kubectl apply leaves (changes.py), and what is
+made up beside manifests alone (alone.py): where types matter, rbacaudit itself lists them and says which a word means, so no name can mislead.
 """
 
 from __future__ import annotations
 
-import os
 from importlib import import_module
 
 from . import VERSION
-from .errors import Ended, Refused
 from .options import COMMANDS
 from .processes import Session, Signalled, hold_files
-from .terminal import print_text
+from .terminal import Ended, Refused, print_text
 
 # The module of each command, which nothing else waits for; the others are questions.
 MODULES = {'export': 'export', 'diff': 'changes', 'read': 'manifests', 'universe': 'listed', 'page': 'page_command'}
@@ -57,8 +55,3 @@ def main(words: list[str], beside: str) -> int:
             return 2
     except Signalled as signalled:
         return signalled.status
-
-
-def end(status: int) -> None:
-    """Ends the process at once: all is written and removed, and what can't be written has been said."""
-    os._exit(status)

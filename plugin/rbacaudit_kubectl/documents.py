@@ -4,6 +4,7 @@ from __future__ import annotations
 
 import json
 import os
+from collections.abc import Iterable, Sequence
 from contextlib import suppress
 from typing import Any
 
@@ -19,10 +20,26 @@ def text_in(value: Any, *names: str) -> str:
     return value if isinstance(value, str) else ''
 
 
+def list_in(value: Any, name: str) -> list[Any]:
+    """A list in an object, or none."""
+    found = value.get(name) if isinstance(value, dict) else None
+    return found if isinstance(found, list) else []
+
+
 def told(text: str) -> str:
     """A text in a message: as JSON has it, and cut where it is long. A character that is cut in two is dropped."""
     data = bytes_of(json.dumps(text, ensure_ascii=False)[1:-1])
     return text_of(data) if len(data) <= MOST_BYTES else data[:MOST_BYTES].decode('utf-8', 'ignore') + '..'
+
+
+def first_of(names: Sequence[str], most: int = 3) -> str:
+    """The first of some names, and how many more there are."""
+    return ', '.join(names[:most]) + (' and %d more' % (len(names) - most) if len(names) > most else '')
+
+
+def first_three(names: Iterable[str]) -> str:
+    """The first three of some names in order, each once, and how many more there are."""
+    return first_of(sorted(set(names), key=bytes_of))
 
 
 def read_text(path: str) -> str:
@@ -50,6 +67,6 @@ def item_of(document: Any, item: int) -> tuple[Any, str]:
     """An item of a list, counted from 1, or the document itself for 0; and its kind, which that of its list may imply."""
     if not item:
         return document, text_in(document, 'kind')
-    items = document.get('items') if isinstance(document, dict) else None
-    found = items[item - 1] if isinstance(items, list) and item <= len(items) else None
+    items = list_in(document, 'items')
+    found = items[item - 1] if item <= len(items) else None
     return found, text_in(found, 'kind') or text_in(document, 'kind').removesuffix('List')

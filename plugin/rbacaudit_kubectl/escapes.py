@@ -5,6 +5,7 @@ Texts are those of bytes in UTF-8, in which a byte that is none is a surrogate (
 
 from __future__ import annotations
 
+import json
 import re
 
 # Controls, formats, separators and blanks but the space; what Unicode 15 calls ignorable; surrogates; and the blank of
@@ -40,7 +41,7 @@ def escaped(text: str, as_json: bool = False) -> str:
     `\\u` and four digits instead, so it means what it meant."""
     if text.isascii() and '\x7f' not in text:
         return text
-    return _HIDDEN.sub(_units if as_json else _octets, text)
+    return _HIDDEN.sub((lambda found: json.dumps(found[0])[1:-1]) if as_json else _octets, text)
 
 
 def printable(text: str) -> str:
@@ -55,12 +56,6 @@ def on_one_line(text: str) -> str:
 
 def _octets(found: re.Match[str]) -> str:
     return ''.join('\\x%02x' % byte for byte in bytes_of(found[0]))
-
-
-def _units(found: re.Match[str]) -> str:
-    value = ord(found[0])
-    units = [value] if value < 0x10000 else [0xd7c0 + (value >> 10), 0xdc00 + (value & 0x3ff)]
-    return ''.join('\\u%04x' % unit for unit in units)
 
 
 def escape_title(text: str) -> str:

@@ -9,16 +9,12 @@ from collections.abc import Iterator
 from contextlib import suppress
 from dataclasses import dataclass, field
 
-from .errors import Refused
 from .escapes import bytes_of, printable
 from .kubectl import Read, Reader, is_cut, look_at_context, put
 from .options import Options, read_options, safe_path
 from .processes import Session, remove_folder
-from .terminal import print_text
-
-TYPE_CHECKING = False
-if TYPE_CHECKING:
-    from .question import Question
+from .question import Question
+from .terminal import Refused, print_text
 
 FIXED = ('cluster.json', 'namespaced.json', 'namespaces.json', 'accounts.json')
 LOCK, OWN_FOLDER = '.rbacaudit-lock', '.rbacaudit'
@@ -187,7 +183,7 @@ def make_room(session: Session, folder: str, force: bool) -> None:
             os.makedirs(folder, 0o700)
         except OSError as fault:
             raise Refused("can't make the folder %s" % folder) from fault
-        session.at_end(lambda: os.rmdir(folder))
+        session.at_end.callback(os.rmdir, folder)
     old_files(folder, force)
 
 
@@ -205,7 +201,7 @@ def keep_others_out(session: Session, folder: str, scratch: str) -> None:
     knows that it doesn't go on: maybe on another machine. What else it left is removed once nobody holds it."""
     import fcntl
     alive = open(os.path.join(scratch, ALIVE), 'wb')    # open, and so locked, until the end
-    session.at_end(alive.close)
+    session.at_end.callback(alive.close)
     with suppress(OSError):
         fcntl.flock(alive, fcntl.LOCK_EX)
     lock = os.path.join(folder, LOCK)
@@ -213,7 +209,7 @@ def keep_others_out(session: Session, folder: str, scratch: str) -> None:
         os.mkdir(lock)
     except OSError as fault:
         raise Refused('another export into %s goes on; if none does, one was killed: remove %s, and try again' % (folder, lock)) from fault
-    session.at_end(lambda: os.rmdir(lock))
+    session.at_end.callback(os.rmdir, lock)
     for name in os.listdir(folder):
         left = os.path.join(folder, name)
         if name.startswith(OWN_FOLDER + '.') and left != scratch and os.path.isdir(left) and not os.path.islink(left):

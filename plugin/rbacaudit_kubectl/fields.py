@@ -38,6 +38,11 @@ def words_of(field: str) -> list[str]:
     return field[1:-1].split(',') if field != '[]' else []
 
 
+def rows_of(text: str) -> list[list[str]]:
+    """The lines of an answer, each as its fields."""
+    return [line.split('\t') for line in text.split('\n') if line]
+
+
 # ---- the powers: the steps by which somebody takes over somebody else
 
 # (the step; its verbs; its types, each with its group after the first dot; `cluster` where only a ClusterRoleBinding gives it, or the namespace whose
@@ -123,11 +128,6 @@ def is_gathered(cells: Sequence[str]) -> bool:
     return (cells[3], cells[6]) == (WHAT, ELSEWHERE)
 
 
-def is_bound(who: str, binding: str) -> bool:
-    """Whether somebody has a binding, or needs none: whoever has a role has it by one elsewhere."""
-    return (binding == '-') == (who == 'total' or who.startswith('r:'))
-
-
 # ---- the lines of each command
 
 # (written so that no text is read twice: what follows a field is a tab or the end of the line)
@@ -166,7 +166,9 @@ class Shape:
         """The fields of a line, or none if it isn't one of these."""
         cells = line.split('\t') if self.pattern.fullmatch(line) else []
         if self.command in DIFFS and cells:
-            return cells if is_bound(cells[self.about], cells[DIFFS[self.command]]) else []
+            # (whoever has a role has it by a binding elsewhere, and a total has none)
+            needs_none = cells[self.about] == 'total' or cells[self.about].startswith('r:')
+            return cells if (cells[DIFFS[self.command]] == '-') == needs_none else []
         return [] if len(cells) == 11 and not tells_step(cells, self.command == 'paths') else cells
 
 
@@ -217,11 +219,6 @@ def _has(node: str, grant: Sequence[str]) -> bool:
     return lacks == ('00000' if node.startswith(('u:', 'g:')) else '11111' if node == '*' else '10001') and (lacks != '10001' or grant[1] == node)
 
 
-def _is_over(step: str, node: str, where: str) -> bool:
-    """Whether a step takes over such a node."""
-    return bool(re.fullmatch(OVER.get(step, ACCOUNT), node + '\t' + where))
-
-
 def tells_step(cells: Sequence[str], is_of_paths: bool) -> bool:
     """Whether a line of paths, or of who-can --indirect, tells how a node takes over another or, with the number 0, why it allows the request itself.
     Only so can the lines of the two commands be told apart."""
@@ -230,4 +227,4 @@ def tells_step(cells: Sequence[str], is_of_paths: bool) -> bool:
         return False
     if cells[0] == '0':
         return [*taken, cells[5]] == ['-', '-', '-']
-    return cells[5] != '-' and _is_node(*taken) and _is_over(cells[5], *taken)
+    return cells[5] != '-' and _is_node(*taken) and bool(re.fullmatch(OVER.get(cells[5], ACCOUNT), '\t'.join(taken)))

@@ -1,8 +1,13 @@
-"""The texts of --help. Lines on commands and options are made from their tables."""
+"""The texts of --help. Lines on commands and options are made from their tables, and paragraphs are set as wide as a screen."""
 
 from __future__ import annotations
 
-from .options import COMMANDS, OF_DIFF, OF_EXPORT, OF_PAGE, OF_READ, OWN, SHOWN, described
+import textwrap
+from collections.abc import Iterator
+from itertools import groupby
+
+from .fields import SHAPES
+from .options import COMMANDS, OF_DIFF, OF_EXPORT, OF_PAGE, OF_READ, OWN, SHOWN, Option
 
 MAIN = '''\
 Answer questions about the RBAC of a cluster with rbacaudit. kubectl reads the cluster, and nothing in it is changed.
@@ -17,16 +22,15 @@ Without --export, each question reads the cluster anew. For several questions, a
   kubectl rbacaudit universe --export prod > universe.json
   kubectl rbacaudit matrix --export prod universe.json
 
-PATH is a file or folder with manifests, a folder with a kustomization, or - for standard input. lint PATH reads no
-cluster; it knows Kubernetes' own roles without --no-defaults. Without -n or -A, can-i and who-can ask about the
-namespace of the context, or of the context that the export was made with; rules lists the rules of all bindings. If -n
-doesn't count because a type is cluster-scoped, the plugin says so. For bind of cluster roles, and for use, it asks in
-the namespace, as a server does.
+PATH is a file or folder with manifests, a folder with a kustomization, or - for standard input. lint PATH reads no cluster; it knows Kubernetes' own
+roles without --no-defaults. Without -n or -A, can-i and who-can ask about the namespace of the context, or of the context that the export was made
+with; rules lists the rules of all bindings. If -n doesn't count because a type is cluster-scoped, the plugin says so. For bind of cluster roles, and
+for use, it asks in the namespace, as a server does.
 
-FILEs are read before the files of the export: if both have an object, the export's counts. The exit status is
-rbacaudit's: 2 is an error. If a part that the command reads is missing, nothing is answered and the status is 2, unless
---partial is given. Standard error lists each type, subresource, verb, namespace, user and group of the question that
-the export doesn't have, and warns of a subresource after a slash: pods/exec means a pod named exec.
+FILEs are read before the files of the export: if both have an object, the export's counts. The exit status is rbacaudit's: 2 is an error. If a part
+that the command reads is missing, nothing is answered and the status is 2, unless --partial is given. Standard error lists each type, subresource,
+verb, namespace, user and group of the question that the export doesn't have, and warns of a subresource after a slash: pods/exec means a pod named
+exec.
 
 Needs: Python 3.9, rbacaudit on the PATH or beside this plugin and, but for exports, kubectl. --version prints versions.
 '''
@@ -58,10 +62,9 @@ You need this ClusterRole, bound by a ClusterRoleBinding:
   - nonResourceURLs: [/api, /api/*, /apis, /apis/*, /version]
     verbs: [get]
 
-Each file is complete or missing, and for you alone. The calls of kubectl run at the same time, so a change during the
-export may be in some files only. Exit status: 0 the export is complete; 1 a part is missing, because you may not read
-it or a call failed; 2 nothing could be read or written. An earlier export in DIR then stays as it was, or has an
-incomplete.txt with the reason. Ask the export with --export DIR, as in:
+Each file is complete or missing, and for you alone. The calls of kubectl run at the same time, so a change during the export may be in some files
+only. Exit status: 0 the export is complete; 1 a part is missing, because you may not read it or a call failed; 2 nothing could be read or written. An
+earlier export in DIR then stays as it was, or has an incomplete.txt with the reason. Ask the export with --export DIR, as in:
   kubectl rbacaudit can-i --export DIR --as alice -n dev get pods
 '''
 DIFF = '''\
@@ -76,18 +79,17 @@ List what a change lets users do, and what it takes from them.
 {options}
   -o sarif         the changes as SARIF, for code hosts, with the file of each binding or of its role
 
-PATH is a file, a folder (.json, .yaml and .yml, folders within), a folder with a kustomization, or - for standard
-input. kubectl reads it, without a cluster (kubectl rbacaudit read --help). Standard error says how many roles and
-bindings were read. Without --without, objects that the change deletes still count.
+PATH is a file, a folder (.json, .yaml and .yml, folders within), a folder with a kustomization, or - for standard input. kubectl reads it, without a
+cluster (kubectl rbacaudit read --help). Standard error says how many roles and bindings were read. Without --without, objects that the change deletes
+still count.
 
-With --from and --to alone, the roles and bindings that Kubernetes itself makes count on both sides. r:ROLE in the place of
-WHO is whoever has this role elsewhere in the cluster, and "what ROLE gathers elsewhere" is what an aggregated role selects
-there. If nobody knows the role of a binding that changes, nothing is answered; --partial leaves such bindings out.
+With --from and --to alone, the roles and bindings that Kubernetes itself makes count on both sides. r:ROLE in the place of WHO is whoever has this
+role elsewhere in the cluster, and "what ROLE gathers elsewhere" is what an aggregated role selects there. If nobody knows the role of a binding that
+changes, nothing is answered; --partial leaves such bindings out.
 
-A line begins with + for a permission that is gained, or with - for one that is lost; rbacaudit diff --help lists the
-fields. All requests of all users are compared, whether an export names them or not. The other options (--partial, -o,
-..) mean what kubectl rbacaudit --help says.
-Exit status: 0 nothing changes, or nothing that --fail-on names; 1 something does; 2 an error.
+A line begins with + for a permission that is gained, or with - for one that is lost; rbacaudit diff --help lists the fields. All requests of all
+users are compared, whether an export names them or not. The other options (--partial, -o, ..) mean what kubectl rbacaudit --help says. Exit status: 0
+nothing changes, or nothing that --fail-on names; 1 something does; 2 an error.
 '''
 READ = '''\
 Print the manifests at some paths as one List in JSON, as kubectl reads them.
@@ -98,9 +100,8 @@ Print the manifests at some paths as one List in JSON, as kubectl reads them.
            kustomization, which kubectl renders; or - for standard input, such as helm template prints
 {options}
 
-Lint, and the options --with, --without, --from and --to of diff, read their PATH in the same way. kubectl reads neither
-a cluster nor a kubeconfig for it. Documents of every kind pass. Standard error says how many roles and bindings were
-read, and which have no namespace. This is refused:
+Lint, and the options --with, --without, --from and --to of diff, read their PATH in the same way. kubectl reads neither a cluster nor a kubeconfig
+for it. Documents of every kind pass. Standard error says how many roles and bindings were read, and which have no namespace. This is refused:
   - a file that kubectl can't read: kubectl's reason is printed first
   - a folder without a manifest, with a Helm chart, or with a kustomization in a folder within
   - a role or binding whose name the server makes (generateName)
@@ -118,20 +119,84 @@ Write everything about the export as one HTML file, which any current browser op
 
 {options}
 
-The rows are those of matrix --once, over the universe that kubectl rbacaudit universe writes: without object names.
-What holds in the whole cluster is listed once, and the page shows it in each namespace. A FILE may be a Universe
-document of your own: each of its fields replaces a list of that universe. The page also shows the findings of lint. Its
-watch list counts separately who may do something only to objects with certain names, whether the Universe document has
-these names or not. --export, --partial, --context, --kubeconfig and --request-timeout mean what kubectl rbacaudit
---help says. Exit status: 0 the page is written; 2 an error.
+The rows are those of matrix --once, over the universe that kubectl rbacaudit universe writes: without object names. What holds in the whole cluster
+is listed once, and the page shows it in each namespace. A FILE may be a Universe document of your own: each of its fields replaces a list of that
+universe. The page also shows the findings of lint. Its watch list counts separately who may do something only to objects with certain names, whether
+the Universe document has these names or not. --export, --partial, --context, --kubeconfig and --request-timeout mean what kubectl rbacaudit --help
+says. Exit status: 0 the page is written; 2 an error.
 '''
+SHOW = '''\
+Show the lines of rbacaudit: as a table, as JSON, or as names.
+
+  rbacaudit rules u:kim *.json | rbacaudit-show [-o FORMAT]
+
+  -o FORMAT, --output FORMAT
+                 table  aligned columns under a head (default). On a terminal a
+                        line is no longer than the screen: the widest columns
+                        are cut, and a cut field ends in ...
+                 wide   the same, and nothing is cut
+                 json   an object for each line, on a line of its own
+                 name   only who or what a line is about, once if several
+                        lines in a row are about the same
+  --no-headers   a table without its head
+  --color WHEN   auto (default), always or never. In a table + is green, - is
+                 red, and powers are bold: permissions by which somebody takes
+                 over somebody else. auto: on a terminal, unless TERM is dumb
+                 or NO_COLOR is set
+  --rules FILE   lines of rbacaudit rules: in a table of --why, the words of
+                 the rule are below each row, if the file has the rule
+  --indirect     take lines that could also be of paths as lines of who-can
+                 --indirect
+  -h, --help     print help
+  -V, --version  print version
+
+rbacaudit-show knows the command by the number of fields and the first field:
+{lines}
+
+All lines have to be of one command. The answer of who-can --indirect begins with lines whose STEPS is 0. Without them, a line may be taken as one of
+paths: use --indirect. The first 500 lines of a table set the widths of its columns. The width of the screen is $COLUMNS or, if it isn't set, the
+terminal's.
+
+Exit status: 0 all lines are shown; 2 an error, also a line that no command prints. The status of rbacaudit itself is lost in a pipe: with set -o
+pipefail bash keeps it.
+'''
+# The lines of each command: which of SHAPES, and what is said around the fields.
+LINES = (('can-i', 0, 'yes or no; %s'), ('can-i --why-not', 1, '%s'), ('who-can', 2, '%s'), ('who-can --why', 3, '%s'), ('who-can --indirect', 10, '%s'),
+         ('rules', 4, '%s'), ('matrix', 5, '%s; end, or next and a token'), ('lint', 6, '%s, and FILE from the plugin'), ('powers', 8, '%s'),
+         ('paths', 9, '%s'), ('diff', 11, '%s'), ('diff --summary', 12, 'of the plugin: %s, and at last total in the place of WHO'))
 # The text of a command, its options, and the column of what they do.
 TEXTS = {'': (MAIN, OWN + SHOWN, 21), 'export': (EXPORT, OF_EXPORT, 20), 'diff': (DIFF, OF_DIFF, 19), 'read': (READ, OF_READ, 11),
          'page': (PAGE, OF_PAGE, 17)}
 
 
+def described(options: tuple[Option, ...], column: int) -> Iterator[str]:
+    """Lines on options; what several do alike is said once."""
+    for text in dict.fromkeys(option.text for option in options):
+        names = ', '.join(('%s %s' % (option.spellings[0], option.value)).strip() for option in options if option.text == text)
+        yield from textwrap.wrap(text, 116, initial_indent=('  ' + names).ljust(column - 2) + '  ', subsequent_indent=' ' * column,
+                                 break_on_hyphens=False)
+
+
+def filled(text: str, width: int = 120) -> str:
+    """A text whose paragraphs have lines of this width. What is indented stays as it is."""
+    lines: list[str] = []
+    for is_set, some in groupby(text.split('\n'), key=lambda line: line[:1] in ('', ' ')):
+        lines += some if is_set else textwrap.wrap(' '.join(some), width, break_on_hyphens=False)
+    return '\n'.join(lines)
+
+
 def help_of(command: str) -> str:
     """What --help of a command prints; a command without a text of its own has that of the plugin."""
-    text, options, width = TEXTS.get(command, TEXTS[''])
+    text, options, column = TEXTS.get(command, TEXTS[''])
     commands = '\n'.join('  kubectl rbacaudit %-36s  %s' % ('%s %s' % (name, it.usage), it.text) for name, it in COMMANDS.items())
-    return text.replace('{commands}', commands).replace('{options}', '\n'.join(described(options, width)))
+    return filled(text.replace('{commands}', commands).replace('{options}', '\n'.join(described(options, column))))
+
+
+def help_of_show() -> str:
+    """What --help of rbacaudit-show prints."""
+    lines: list[str] = []
+    for name, at, around in LINES:
+        head, blank = ('  ' + name).ljust(17), ' ' * 17
+        lines += [head] * (head[-1] != ' ') + textwrap.wrap(around % ' '.join(head for head, _, _ in SHAPES[at].fields), 80,
+                                                            initial_indent=head if head[-1] == ' ' else blank, subsequent_indent=blank)
+    return filled(SHOW.replace('{lines}', '\n'.join(lines)), 79)

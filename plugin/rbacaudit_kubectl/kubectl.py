@@ -9,15 +9,10 @@ import select
 from collections.abc import Iterable, Iterator
 from dataclasses import dataclass, field
 
-from .errors import Refused
 from .escapes import bytes_of, printable, text_of
 from .options import Options
-from .processes import NOTHING, PIPE, Session
-from .terminal import is_terminal
-
-TYPE_CHECKING = False
-if TYPE_CHECKING:
-    from .processes import Child
+from .processes import NOTHING, PIPE, Child, Session
+from .terminal import Refused
 
 SIDE_BY_SIDE = 8    # how many calls go on at once, which wait for most of their time
 RBAC = 'rbac.authorization.k8s.io'
@@ -184,7 +179,7 @@ class Reader:
             if self._signed_in:
                 call.child = self.session.start(words, stdin=NOTHING, stdout=out, stderr=said)
             else:
-                call.child = self.session.start(words, stdout=out, stderr=None if is_terminal(2) else PIPE)
+                call.child = self.session.start(words, stdout=out, stderr=None if os.isatty(2) else PIPE)
         self._going.append(call)
 
     def _end(self, call: Call) -> None:

@@ -11,13 +11,15 @@ import os
 import re
 from collections.abc import Iterator
 from dataclasses import dataclass, field
+from itertools import groupby
 from typing import Any, Dict
 
-from .documents import read_text, text_in, told
-from .errors import Refused
+from .documents import first_of, read_text, text_in, told
 from .escapes import bytes_of, on_one_line
 from .fields import in_key
+from .options import read_options
 from .processes import Session
+from .terminal import Refused, print_text
 
 Item = Dict[str, Any]
 KUSTOMIZATIONS = ('kustomization.yaml', 'kustomization.yml', 'Kustomization')
@@ -26,10 +28,10 @@ ROLES, BINDINGS = ('Role', 'ClusterRole'), ('RoleBinding', 'ClusterRoleBinding')
 NAMESPACED = ('Role', 'RoleBinding', 'ServiceAccount')
 PATCH = ('kubectl', 'patch', '--local', '--type=merge', '-p', '{}', '-o', 'json')
 MOST_FILES, SIDE_BY_SIDE = 1000, 4   # in a call, and calls that go on at once
-# What a file with one object surely has, and what one with several may have: another document, a list, a key that hides, UTF-16.
-# (older versions of kubectl drop the document that begins with such a line)
+# Older versions of kubectl drop the document that begins with such a line.
 ODD_SEPARATOR = re.compile(r'^---[ \t]+[^ \t\r\n].*$', re.M)
-HAS_ONE, MAY_HAVE_MORE = re.compile(r'^kind:', re.M), re.compile(r'---|items|[\\!\0]|\A\s*\{')
+# What an object of YAML surely has, and what a list may have: items, a key that hides; UTF-16 and JSON hide both.
+HAS_KIND, MAY_BE_LIST = re.compile(r'^kind:', re.M), re.compile(r'items|[\\!\0]|\A\s*\{')
 
 
 @dataclass
@@ -90,7 +92,7 @@ def labels_of(item: Any) -> dict[str, Any]:
 
 @dataclass
 class Call:
-    """A call of kubectl for a path. A mark stands behind the objects of each file that may have more than one, or none."""
+    """A call of kubectl for a path, or '' for several files. A mark stands behind the objects of each file that may have more than one, or none."""
     path: str
     files: list[str]
     words: list[str]
@@ -100,6 +102,14 @@ class Call:
 def as_value(path: str) -> str:
     """A path as a value of -f, which separates paths by commas."""
     return '"%s"' % path.replace('"', '""') if ',' in path or '"' in path else path
+
+
+def calls_of(paths: list[str], mark: str) -> Iterator[Call]:
+    """The calls that read some paths. Files in a row share a call, which takes kubectl longer to begin than to read a file: but a file that may
+    have no object has its own, since kubectl refuses it."""
+    for may_share, some in groupby(paths, key=has_some):
+        calls = [call for path in some for call in calls_for(path, mark)]
+        yield from calls_over('', [call.path for call in calls], mark) if may_share and len(calls) > 1 else calls
 
 
 def calls_for(path: str, mark: str) -> Iterator[Call]:
@@ -119,17 +129,26 @@ def calls_for(path: str, mark: str) -> Iterator[Call]:
     elif is_kustomized(path):
         yield Call(path, [path], ['-k', path])
     else:
-        files = files_in(path)
-        for some in (files[at:at + MOST_FILES] for at in range(0, len(files), MOST_FILES)):
-            marked = {file for file in some if not has_one(file)}
-            words = [word for file in some for word in ('-f', as_value(file), *(['-f', as_value(mark)] if file in marked else []))]
-            yield Call(path, some, words, marked)
+        yield from calls_over(path, files_in(path), mark)
+
+
+def calls_over(path: str, files: list[str], mark: str) -> Iterator[Call]:
+    """The calls that read many files."""
+    for some in (files[at:at + MOST_FILES] for at in range(0, len(files), MOST_FILES)):
+        marked = {file for file in some if not has_one(file)}
+        words = [word for file in some for word in ('-f', as_value(file), *(['-f', as_value(mark)] if file in marked else []))]
+        yield Call(path, some, words, marked)
+
+
+def has_some(path: str) -> bool:
+    """Whether a file of YAML surely has an object, if kubectl can read it."""
+    text = read_text(path)
+    return bool(HAS_KIND.search(text)) and not MAY_BE_LIST.search(text)
 
 
 def has_one(path: str) -> bool:
-    """Whether a file of YAML surely has one object, if kubectl can read it: so it needs no mark, which costs kubectl as much as a file."""
-    text = read_text(path)
-    return bool(HAS_ONE.search(text)) and not MAY_HAVE_MORE.search(text)
+    """Whether it surely has one alone: so it needs no mark, which costs kubectl as much as a file."""
+    return has_some(path) and '---' not in read_text(path)
 
 
 def files_in(folder: str) -> list[str]:
@@ -168,18 +187,22 @@ def without_links(folder: str, files: list[str]) -> list[str]:
     return [path for path in files if path not in links or path in kept]
 
 
-def run_calls(session: Session, calls: list[Call]) -> Iterator[tuple[Call, int, str]]:
-    """Makes calls, some at a time: the status of each and what it printed. What it said is told on one line."""
+def run_calls(session: Session, calls: list[Call], name: str = 'call') -> Iterator[tuple[Call, int, str]]:
+    """Makes calls, some at a time: the status of each and what it printed. What it said is told on one line. If several files fail, each is
+    read by itself, to know which can't be read."""
     # (kubectl reads neither a cluster nor a kubeconfig here, and a third of its time goes into garbage that needn't be collected)
     environment = {'GOGC': '400', **session.environment, 'KUBECONFIG': os.devnull, 'KUBERC': 'off'}
     for some in (calls[at:at + SIDE_BY_SIDE] for at in range(0, len(calls), SIDE_BY_SIDE)):
         going = []
         for number, call in enumerate(some):
-            paths = [session.path('%s.%d' % (name, number)) for name in ('printed', 'said')]
+            paths = [session.path('%s-%d.%s' % (name, number, what)) for what in ('printed', 'said')]
             with open(paths[0], 'wb') as printed, open(paths[1], 'wb') as said:
                 going.append((call, session.start([*PATCH, *call.words], stdout=printed, stderr=said, env=environment), paths))
         for call, child, paths in going:
             status, texts = session.end(child), [*map(read_text, paths)]
+            if status and not call.path:
+                yield from run_calls(session, [one for file in call.files for one in calls_for(file, '')], 'again')
+                continue
             session.say(on_one_line(texts[1].rstrip('\n')) + '\n' if texts[1] else '')
             yield call, status, texts[0]
 
@@ -191,7 +214,7 @@ def read_objects(session: Session, paths: list[str]) -> Iterator[tuple[str, str,
     mark = {'apiVersion': 'rbacaudit/v1', 'kind': 'EndOfFile', 'metadata': {'name': os.urandom(16).hex()}}
     file_of_mark = session.write('mark.json', json.dumps(mark))
     unread = ''
-    for call, status, printed in run_calls(session, [call for path in paths for call in calls_for(path, file_of_mark)]):
+    for call, status, printed in run_calls(session, [*calls_of(paths, file_of_mark)]):
         unread = unread or (call.path if status else '')
         files = iter(call.files)
         file = next(files)
@@ -238,9 +261,8 @@ def take_manifests(session: Session, name: str, paths: list[str], namespace: str
     session.report('read from %s: %s' % (found.named, ', '.join('%d %s%s' % (many, of, 's'[many == 1:]) for many, of in counts)))
     look_for_doubts(session, found)
     if bare:
-        first = ', '.join(bare[:3]) + (' and %d more' % (len(bare) - 3) if len(bare) > 3 else '')
         offer = '; -n NS counts them in NS' if offers and not namespace else ''
-        session.report('these have no namespace, and count in %s: %s%s' % (namespace or 'default', first, offer))
+        session.report('these have no namespace, and count in %s: %s%s' % (namespace or 'default', first_of(bare), offer))
     elif namespace:
         session.report('no object of %s lacks a namespace, so -n %s changes nothing' % (found.named, namespace))
     found.file = session.write('manifests-%s.json' % name, list_text(found.texts))
@@ -278,8 +300,9 @@ def is_kustomized(path: str) -> bool:
 
 
 def left_out(folder: str) -> list[str]:
-    """The manifests of a folder that its kustomization doesn't name; folders with one of their own are judged by themselves."""
-    said = ''.join(read_text(os.path.join(folder, name)) for name in KUSTOMIZATIONS)
+    """The manifests of a folder that its kustomization doesn't name, but maybe in a comment; folders with one of their own are judged by
+    themselves."""
+    said = re.sub(r'(?m)(^|\s)#.*$', '', ''.join(read_text(os.path.join(folder, name)) for name in KUSTOMIZATIONS))
     found = []
     for path, folders, files in os.walk(folder):
         folders[:] = sorted(name for name in folders if not is_kustomized(os.path.join(path, name)))
@@ -325,13 +348,7 @@ def check_namespace(name: str) -> None:
 
 def read_command(session: Session, words: list[str]) -> int:
     """kubectl rbacaudit read: the manifests at some paths as one List."""
-    from .help import help_of
-    from .options import read_options
-    from .terminal import print_text
     options = read_options('read', words)
-    if options.help:
-        print_text(help_of('read'))
-        return 0
     options.check_end()
     if not options.paths:
         raise Refused('read needs a path: a file, a folder, or - for standard input')

@@ -2,16 +2,16 @@
 
 from __future__ import annotations
 
+import os
 from collections.abc import Iterator
 from dataclasses import dataclass
 
-from .errors import Ended, Refused
-from .terminal import is_terminal, print_text
+from .terminal import Ended, Refused, print_text
 
 
 @dataclass(frozen=True)
 class Option:
-    """An option: its spellings, what its value is called, the field of Options that it sets (one of rbacaudit's own has none), what it does."""
+    """An option: its spellings, what its value is called, the field of Options that it sets, what it does, and whether it may come again."""
     names: str
     value: str = ''
     field: str = ''
@@ -57,12 +57,13 @@ OF_EXPORT = (
     Option('--force', '', 'force', 'replace all files of an export that DIR holds; other files in DIR stay'),
     Option('-n,--namespace', 'NS', 'namespace', 'read only the namespace NS: use this if you may read no other'), *TARGETS,
     Option('--as', 'USER', 'as_user', AS_KUBECTL), Option('--as-group', 'GROUP', 'as_groups', AS_KUBECTL, True))
-# rbacaudit's own, which the plugin passes on: their values have to be known for what they are.
+# rbacaudit's own, which the plugin passes on: their values have to be known for what they are. Their fields are those of Question.
 PASSED = {option.long: option for option in (
-    Option('--as', 'USER'), Option('--groups', 'A,B'), Option('--group', 'G', repeats=True), Option('-n,--namespace', 'NS'),
-    Option('-A,--all-namespaces'), Option('--in-namespace'), Option('--subresource', 'S'), Option('-q,--quiet'), Option('--why'), Option('--why-not'),
-    Option('--anywhere'), Option('--any-name'), Option('--every'), Option('--indirect'), Option('--steps', 'STEPS'), Option('--once'),
-    Option('--after', 'TOKEN'), Option('--limit', 'N'), Option('--only', 'CODES'), Option('--skip-system'))}
+    Option('--as', 'USER', 'asker'), Option('--groups', 'A,B'), Option('--group', 'G', repeats=True), Option('-n,--namespace', 'NS', 'namespace'),
+    Option('-A,--all-namespaces', '', 'everywhere'), Option('--in-namespace', '', 'in_namespace'), Option('--subresource', 'S', 'subresource'),
+    Option('-q,--quiet', '', 'quiet'), Option('--why', '', 'why'), Option('--why-not', '', 'why_not'), Option('--anywhere', '', 'anywhere'),
+    Option('--any-name'), Option('--every'), Option('--indirect', '', 'indirect'), Option('--steps', 'STEPS'), Option('--once', '', 'once'),
+    Option('--after', 'TOKEN'), Option('--limit', 'N'), Option('--only', 'CODES', 'codes'), Option('--skip-system'))}
 SCOPE = '--namespace --all-namespaces --in-namespace --subresource '
 
 
@@ -217,19 +218,6 @@ def formats_of(command: str) -> tuple[str, ...]:
 
 def choose_format(options: Options, said_of: str) -> None:
     """Checks the format, before anything is read. Without -o it is a table on a terminal."""
-    options.format, known = options.format or ('table' if is_terminal(1) else 'tsv'), formats_of(said_of)
+    options.format, known = options.format or ('table' if os.isatty(1) else 'tsv'), formats_of(said_of)
     if options.format not in known:
         raise Refused('%s has no format %s: -o takes %s or %s' % (said_of, options.format, ', '.join(known[:-1]), known[-1]))
-
-
-def described(options: tuple[Option, ...], width: int, most: int = 116) -> Iterator[str]:
-    """Lines of help on options; what several do alike stands once."""
-    for text in dict.fromkeys(option.text for option in options):
-        names = ', '.join(('%s %s' % (option.spellings[0], option.value)).strip() for option in options if option.text == text)
-        line = ('  ' + names).ljust(width - 2) + ' '
-        for word in text.split():
-            if len(line) + len(word) >= most:
-                yield line
-                line = ' ' * (width - 1)
-            line += ' ' + word
-        yield line

@@ -8,18 +8,16 @@ import re
 from collections.abc import Iterator
 
 from . import page
-from .answer import Asking, ask_well, lines_of, report_fault
-from .errors import Refused
-from .escapes import printable, text_of
+from .answer import Asking, ask_as_it_comes, ask_well, lines_of
+from .escapes import printable
 from .export import open_export, write_about
 from .fields import has_name, in_field
 from .listed import Type, list_types, make_universe
 from .options import read_options
-from .processes import PIPE, Session
+from .processes import Session
 from .question import Question, check_cluster
-from .remarks import look_for_universes, on_namespace
-from .stale import stale_in
-from .terminal import is_terminal
+from .remarks import look_for_universes, on_namespace, stale_in
+from .terminal import Refused
 
 # A rule with resourceNames, perhaps with a letter of it as an escape.
 NAMES = re.compile(rb'"resourceNames"|\\u00([46][0-9A-Fa-f]|[57][0-9Aa])')
@@ -28,7 +26,7 @@ NAMES = re.compile(rb'"resourceNames"|\\u00([46][0-9A-Fa-f]|[57][0-9Aa])')
 def page_command(session: Session, words: list[str]) -> int:
     """The command page."""
     options = read_options('page', words)
-    if not options.output and is_terminal(1):
+    if not options.output and os.isatty(1):
         raise Refused('the page goes into a file: kubectl rbacaudit page --output access.html')
     session.need_rbacaudit()
     check_cluster(session, options)
@@ -49,7 +47,7 @@ def write_page(asking: Asking) -> int:
     given = [session.write('universe.json', text), *asking.question.files]
     linted = [*given, *asking.files('cluster.json', 'namespaced.json')]
     texts = {'--lint': ask_well(asking, ['lint', '--', *linted], linted).out, '--named': ''.join(named_holders(asking, types))}
-    stale = stale_in(texts['--lint'])
+    stale = ', '.join(stale_in(texts['--lint']))
     if stale:
         session.report('stale aggregates (L6 of lint): %s; the cluster grants what is written in them, and this page has what they gather' % stale)
     texts['--notices'] = printable(''.join(line + '\n' for line in notices(asking, stale)))
@@ -63,21 +61,9 @@ def write_page(asking: Asking) -> int:
               if pair[1]]
     place = {'namespaces': ['', options.namespace]} if options.namespace else {}
     document = json.dumps({'apiVersion': 'rbacaudit/v1', 'kind': 'Universe', **place})
-    return write_rows(asking, [*given, session.write('place.json', document), *asking.files()], words)
-
-
-def write_rows(asking: Asking, files: list[str], words: list[str]) -> int:
-    """Runs rbacaudit, whose rows the page takes as they come. It is no fault of theirs that the page took no more of them."""
-    session = asking.session
-    with open(session.path('said'), 'w+b') as said:
-        child = session.start(['rbacaudit', 'matrix', '--once', *['--every'] * asking.options.every, '--', *files], stdout=PIPE, stderr=said)
-        status = page.main(words, lines_of(child))
-        session.end(child)
-        said.seek(0)
-        text = text_of(said.read())
-    if status and not text.startswith('rbacaudit: write failed'):
-        report_fault(asking, text, files)
-    return status
+    files = [*given, session.write('place.json', document), *asking.files()]
+    line = ['matrix', '--once', *['--every'] * options.every, '--', *files]
+    return ask_as_it_comes(asking, line, files, lambda child: page.main(words, lines_of(child)))[1]
 
 
 def notices(asking: Asking, stale: str) -> Iterator[str]:

@@ -6,21 +6,18 @@ import os
 import signal
 import subprocess
 import sys
-from collections.abc import Callable, Sequence
-from contextlib import suppress
+from collections.abc import Sequence
+from contextlib import ExitStack, suppress
 from dataclasses import dataclass
 from types import FrameType
+from typing import Any
 
-from .errors import Refused
 from .escapes import bytes_of, text_of
-from .terminal import Progress, report, say
+from .terminal import Progress, Refused, report, say
 
 ENDING = (signal.SIGHUP, signal.SIGINT, signal.SIGQUIT, signal.SIGTERM)
 PIPE, NOTHING = subprocess.PIPE, subprocess.DEVNULL
-TYPE_CHECKING = False
-if TYPE_CHECKING:
-    from typing import Any
-    Child = subprocess.Popen[bytes]
+Child = subprocess.Popen[bytes]
 
 
 class Signalled(BaseException):
@@ -74,7 +71,7 @@ class Session:
         self._beside = beside       # the folder in which the plugin stands
         self._scratch = ''
         self._children: list[Child] = []
-        self._ends: list[Callable[[], None]] = []
+        self.at_end = ExitStack()   # what is done then, whatever ends the run; what came last is done first
         self._is_starting, self._heard = False, 0
 
     def __enter__(self) -> Session:
@@ -91,9 +88,8 @@ class Session:
             child.terminate()
         for child in self._children:
             child.wait()
-        for end in reversed(self._ends):
-            with suppress(OSError):     # what can't be removed stays
-                end()
+        with suppress(OSError):     # what can't be removed stays
+            self.at_end.close()
 
     def _hear(self, number: int, _frame: FrameType | None) -> None:
         """Ends the run: but a child that is just beginning has to be known first."""
@@ -114,10 +110,6 @@ class Session:
 
     # ---- files
 
-    def at_end(self, end: Callable[[], None]) -> None:
-        """Has this done at the end, whatever ends the run; what came last is done first."""
-        self._ends.append(end)
-
     def make_scratch(self, parent: str, name: str) -> str:
         """Makes the temporary folder."""
         self._scratch = os.path.join(parent, '%s.%s' % (name, os.urandom(8).hex()))
@@ -125,7 +117,7 @@ class Session:
             os.mkdir(self._scratch, 0o700)
         except OSError as fault:
             raise Refused("can't make a temporary folder in %s" % parent) from fault
-        self.at_end(lambda: remove_folder(self._scratch))
+        self.at_end.callback(remove_folder, self._scratch)
         return self._scratch
 
     @property

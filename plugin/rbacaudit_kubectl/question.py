@@ -2,14 +2,12 @@
 
 from __future__ import annotations
 
-from .errors import Ended, Refused
-from .options import COMMANDS, Options, Token, choose_format, tokens_of
-from .processes import NOTHING, Session
-from .terminal import is_terminal, print_text
+import os
 
-FLAGS = {'--all-namespaces': 'everywhere', '--anywhere': 'anywhere', '--in-namespace': 'in_namespace', '--indirect': 'indirect',
-         '--once': 'once', '--quiet': 'quiet', '--why': 'why', '--why-not': 'why_not'}
-VALUES = {'--as': 'asker', '--subresource': 'subresource', '--only': 'codes', '--namespace': 'namespace'}
+from .options import COMMANDS, PASSED, Option, Options, Token, choose_format, tokens_of
+from .processes import NOTHING, Session
+from .terminal import Ended, Refused, print_text
+
 ROLES = ['cluster.json', 'namespaced.json']
 PARTS = {'rules': ROLES, 'powers': ROLES, 'lint': ROLES, 'diff': ROLES, 'paths': [*ROLES, 'accounts.json'],
          'matrix': [*ROLES, 'namespaces.json', 'accounts.json', 'api']}
@@ -47,16 +45,14 @@ class Question:
         place = ['--namespace=' + self.asked_in] if not self.has_namespace and (self.implied or self.own) else []
         return [self.command, *place, *['--in-namespace'] * bool(self.own or self.place_of), *self.words]
 
-    def take(self, token: Token, name: str) -> None:
+    def take(self, token: Token, option: Option) -> None:
         """Takes an option that rbacaudit has."""
         value = token.value or ''
-        if name in ('--group', '--groups'):
-            self.take_groups(value, name == '--groups')
-        elif name in VALUES:
-            setattr(self, VALUES[name], value)
-            self.has_namespace |= name == '--namespace' and token.value is not None
-        elif name in FLAGS:
-            setattr(self, FLAGS[name], True)
+        if option.long in ('--group', '--groups'):
+            self.take_groups(value, option.long == '--groups')
+        elif option.field:
+            setattr(self, option.field, value if option.value else True)
+        self.has_namespace |= option.field == 'namespace' and token.value is not None
         if len(token.words) > 1 and value.startswith('-'):
             self.dashed = '%s=%s' % (token.name, value)
 
@@ -84,11 +80,11 @@ def read_question(command: str, words: list[str]) -> tuple[Options, Question]:
     most = len(COMMANDS[command].places.split()) - 1
     for token in tokens_of(command, words):
         word = token.words[0]
-        if token.option and token.option.field:
+        if token.option and token.option.long not in PASSED:
             options.take(token, token.option)
             continue
         if token.option:
-            question.take(token, token.option.long)
+            question.take(token, token.option)
         elif not token.name and len(question.places) == most:
             question.files.append(word)
             continue
@@ -153,7 +149,7 @@ def question_command(session: Session, command: str, words: list[str]) -> int:
         return status
     choose_format(options, command)
     # (whoever reads a no asks next why)
-    if command == 'can-i' and options.format in ('table', 'wide') and is_terminal(1) and not (question.quiet or question.why_not):
+    if command == 'can-i' and options.format in ('table', 'wide') and os.isatty(1) and not (question.quiet or question.why_not):
         question.words.insert(0, '--why-not')
     # (lint of manifests reads neither a cluster nor an export)
     alone = command == 'lint' and not options.export and bool(question.files)
@@ -163,6 +159,6 @@ def question_command(session: Session, command: str, words: list[str]) -> int:
     accept_words(session, question)
     from .answer import Asking, answer_question
     if alone:
-        from .lint import lint_manifests
+        from .alone import lint_manifests
         return lint_manifests(Asking(session, options, question))
     return answer_question(session, options, question)

@@ -1,23 +1,24 @@
-"""What is said beside an answer: a function for each remark, with its condition and its text."""
+"""What is said beside an answer: a function for each remark, with its condition and its text; and whom a question is about."""
 
 from __future__ import annotations
 
 import json
-from collections.abc import Iterable, Iterator
+import os
+import re
+from collections.abc import Iterator
+from dataclasses import dataclass, field
+from typing import Any
 
 from .answer import Asking
-from .documents import read_document, read_text, text_in, told
-from .escapes import bytes_of
+from .documents import first_of, list_in, read_document, read_text, text_in, told
+from .fields import in_field, in_key, rows_of
 from .kubectl import RBAC
-from .listed import Lists, Type
-from .processes import Session
-
-TYPE_CHECKING = False
-if TYPE_CHECKING:
-    from typing import Any
+from .listed import V1, Lists, Type
+from .processes import Done, Session
+from .question import ACCOUNT
 
 SPELLING = ': check the spelling'
-ELSEWHERE = '-n NS asks about another, and -A about the whole cluster'
+OTHER_PLACES = '-n NS asks about another, and -A about the whole cluster'
 URL_VERBS = ('get', 'put', 'post', 'head', 'options', 'delete', 'patch')
 # Verbs that no API resource list has.
 SPECIAL = ('*', 'bind', 'escalate', 'use', 'approve', 'sign', 'attest')
@@ -28,17 +29,20 @@ UNLISTED = {'impersonate': ('users', 'users.', 'groups', 'groups.', 'uids.authen
             'approve': SIGNERS, 'sign': SIGNERS, 'attest': SIGNERS}
 UNIVERSE_FIELDS = ('apiVersion', 'kind', 'metadata', 'principals', 'namespaces', 'verbs', 'names', 'resources', 'urls')
 ITEM_FIELDS = {'principals': ('user', 'groups', 'group'), 'resources': ('group', 'resource', 'namespaced')}
-
-
-def first_three(names: Iterable[str]) -> str:
-    """The first three of some names, and how many more there are."""
-    found = sorted(set(names), key=bytes_of)
-    return ', '.join(found[:3]) + (' and %d more' % (len(found) - 3) if len(found) > 3 else '')
+# What an answer of each command has, and the fields of a line that tell something, by their number: the others say where a rule is written.
+DIFFERS = {'who-can': 'holders', 'rules': 'rules', 'powers': 'powers', 'paths': 'paths'}
+TELLING = {8: (0, 1, 2), 10: (0, 5, 6, 7, 8, 9), 11: (0, 1, 2, 3, 4, 5)}
+# A binding of any role counts as one of the role that the probe has. No other object has the field, and a text that looks like it has a
+# backslash before its last quote.
+ROLE_REF = re.compile(rb'"roleRef"\s*:')
+REBOUND = b'"roleRef":{"kind":"ClusterRole","name":"/"},"was":'
+PROBE = json.dumps({'apiVersion': V1, 'kind': 'ClusterRole', 'metadata': {'name': '/'},
+                    'rules': [{'verbs': ['get'], 'apiGroups': ['*'], 'resources': ['*']}]})
+NAMED_ACCOUNT = re.compile(r'u:system:serviceaccount:([-a-z0-9.]+):([^:]+)')
 
 
 def remark_on_question(asking: Asking) -> None:
     """What is said before an answer: of the type, the namespace, and whoever asks."""
-    from .askers import on_asker
     for remark in (on_type, on_url, on_own_object, on_place, on_implied, on_namespace, on_asker):
         for text in remark(asking):
             asking.session.report(text)
@@ -159,7 +163,7 @@ def on_place(asking: Asking) -> Iterator[str]:
     """A question about a cluster-scoped type is about a namespace."""
     question = asking.question
     if question.place_of:
-        about = 'the question is about the namespace %s; %s' % (question.asked_in, ELSEWHERE if question.implied else '-A asks about the whole cluster')
+        about = 'the question is about the namespace %s; %s' % (question.asked_in, OTHER_PLACES if question.implied else '-A asks about the whole cluster')
         yield 'a server asks about %s in the namespace of the %s, so %s' % (
             question.verb, question.place_of, 'the RoleBindings of all namespaces count' if question.anywhere else about)
 
@@ -168,7 +172,7 @@ def on_implied(asking: Asking) -> Iterator[str]:
     """The namespace is that of the context."""
     question = asking.question
     if question.asked_in and question.implied and not question.place_of:
-        yield 'the question is about the namespace %s; %s' % (question.implied, ELSEWHERE)
+        yield 'the question is about the namespace %s; %s' % (question.implied, OTHER_PLACES)
 
 
 def on_namespace(asking: Asking) -> Iterator[str]:
@@ -193,12 +197,6 @@ def documents_in(value: Any) -> Iterator[dict[str, Any]]:
     yield from (one for one in (list_in(value, 'items') or [value]) if isinstance(one, dict))
 
 
-def list_in(value: Any, name: str) -> list[Any]:
-    """A list in an object, or none."""
-    found = value.get(name) if isinstance(value, dict) else None
-    return found if isinstance(found, list) else []
-
-
 def look_for_universes(session: Session, files: list[str], once: bool) -> None:
     """Reports what of the FILEs is meant for a universe, and is ignored; and one of which --once lists nothing, since it lacks the whole
     cluster."""
@@ -209,7 +207,7 @@ def look_for_universes(session: Session, files: list[str], once: bool) -> None:
 
 def look_for_universe(session: Session, path: str, named: str = '', idle: bool = False) -> list[str]:
     """Reports what of a file is meant for a universe, and is ignored: in a change, all of it is. The namespaces that it lists."""
-    text = read_text(path) or ''
+    text = read_text(path)
     documents = [*documents_in(read_document(path))] if 'rbacaudit' in text or '"Universe"' in text else []
     for line in dict.fromkeys(line for document in documents for line in universe_faults(document, idle)):
         session.report('%s: %s' % (named or path, line))
@@ -228,3 +226,157 @@ def universe_faults(document: dict[str, Any], idle: bool) -> Iterator[str]:
         yield from ('%s has no field %s, so it is ignored' % (what, told(name)) for what, name in names)
     elif 'apiVersion' in document and (kind == 'Universe' or version.startswith('rbacaudit')):
         yield 'a document of the version %s and the kind %s is ignored: a Universe document has rbacaudit/v1 and Universe' % (told(version), told(kind))
+
+
+# ---- whom a question is about: a user or a group that no binding names, and who was probably meant
+
+def on_asker(asking: Asking) -> Iterator[str]:
+    """A user and groups that no binding names: but an account by whether it is there, if that can be told."""
+    question, asker = asking.question, asking.question.asker
+    if question.command == 'who-can':
+        return
+    home, colon, name = asker[len(ACCOUNT):].partition(':')
+    if asker.startswith(ACCOUNT) and colon and asking.export and asking.export.only in ('', home):
+        there = list_accounts(asking)
+        if there is not None:
+            asker = ''
+            if question.asker not in there:
+                yield 'the export has no service account %s in the namespace %s%s' % (name, home, SPELLING)
+    named = named_keys(asking) if asker or question.groups else None
+    if named is not None:
+        names = Names(question.command != 'can-i', question.asked_in or question.namespace or question.implied, named)
+        if asker and any(names.unnamed(asker, question.groups)):
+            names.known |= {'u:' + in_field(user) for user in list_accounts(asking) or ()}
+        yield from names.unnamed(asker, question.groups)
+
+
+def list_accounts(asking: Asking) -> list[str] | None:
+    """The users that service accounts are, unless the export doesn't tell."""
+    there = list_there(asking, 'accounts.json', 'principals')
+    return None if there is None else [entry['user'] for entry in there if 'user' in entry]
+
+
+def named_keys(asking: Asking) -> set[str] | None:
+    """The key of each user and group that a binding names, as rbacaudit tells who may do what all bindings grant: nothing if a FILE can't be
+    read twice, or rbacaudit refuses one."""
+    copies: list[str] = []
+    for path in [*asking.question.files, *asking.files('cluster.json', 'namespaced.json')]:
+        if not os.path.isfile(path) or not os.access(path, os.R_OK):
+            return None
+        copies.append(asking.session.path('bound.%d' % len(copies)))
+        with open(path, 'rb') as file, open(copies[-1], 'wb') as copy:
+            copy.write(ROLE_REF.sub(REBOUND, file.read()))
+    probe = asking.session.write('probe.json', PROBE)
+    found = asking.session.capture(['rbacaudit', 'who-can', '--anywhere', '--in-namespace', 'get', 'bindings', *copies, probe])
+    return None if found.status else {line.partition('\t')[0] for line in found.out.split('\n')}
+
+
+@dataclass
+class Names:
+    """The keys that bindings name; and those that are known, with service accounts."""
+    is_who: bool        # whether the command takes keys
+    home: str           # the namespace asked about
+    named: set[str]
+    known: set[str] = field(default_factory=set)
+
+    def __post_init__(self) -> None:
+        self.known |= self.named
+
+    def unnamed(self, asker: str, groups: list[str]) -> Iterator[str]:
+        """A line for a user, and one for groups, that no binding names. A user with a group that a binding names, or one of Kubernetes' own,
+        needs no binding."""
+        keys = {group: 'g:' + in_key(group) for group in groups}
+        unnamed = [group for group, key in keys.items() if key not in self.named and not key.startswith('g:system:')]
+        is_member = any(group not in unnamed and group != 'system:authenticated' for group in groups)
+        if asker not in ('', 'system:anonymous') and not is_member and 'u:' + in_key(asker) not in self.named:
+            yield 'no binding of the export names the user %s%s' % (in_key(asker), self._of_user(asker, bool(groups)))
+        if unnamed:
+            hint = next(filter(None, map(self._of_group, unnamed)), SPELLING)
+            yield 'no binding of the export names the group%s %s%s' % ('s' * (len(unnamed) > 1), first_of([*map(in_key, unnamed)]), hint)
+
+    def _of_user(self, name: str, has_groups: bool) -> str:
+        """Who was probably meant."""
+        account = self._account(name)
+        if name.startswith('g:') and name != 'g:':
+            return ': to ask about the group, write ' + self._group(name[2:])
+        if name.startswith('u:') and name != 'u:':
+            return ': write ' + self._user(name[2:])
+        if account not in ('', name):
+            return ': to ask about the service account, write ' + self._user(account)
+        if 'g:' + in_key(name) in self.named:
+            return ', but a group of that name: write ' + self._group(name)
+        other = self._alike('u:' + name)
+        has_only = ', so it has only what its groups have' + ('' if has_groups or account else '; --groups A,B names them')
+        return ', but the user %s%s' % (other, SPELLING) if other else has_only
+
+    def _of_group(self, name: str) -> str:
+        if name.startswith('g:') and name != 'g:':
+            return ': write ' + self._group(name[2:])
+        if 'u:' + in_key(name) in self.named:
+            return ', but a user of that name: write ' + self._user(name)
+        other = self._alike('g:' + name)
+        commas = ": --groups splits at commas, and --group doesn't" if ',' in name and not self.is_who else ''
+        return ', but the group %s%s' % (other, SPELLING) if other else commas
+
+    def _alike(self, key: str) -> str:
+        """The name of a key that is this one but for capitals."""
+        return min((other[2:] for other in self.named if other.lower() == in_key(key).lower()), default='')
+
+    def _user(self, name: str) -> str:
+        return ('u:' if self.is_who else '--as ') + name
+
+    def _group(self, name: str) -> str:
+        return ('g:' if self.is_who else '--group ' if ',' in name else '--groups ') + name
+
+    def _account(self, name: str) -> str:
+        """The user name of the service account that a name was meant for: in the namespace asked about, or the only one of this name."""
+        rest = re.sub('^(system:)?(serviceaccounts?|sa)[:/]', '', name)
+        is_told, parts = rest != name, re.split('[:/]', rest)
+        if len(parts) > 2 or '' in parts:
+            return ''
+        account = ACCOUNT + ':'.join(parts if len(parts) == 2 else [self.home, rest])
+        if 'u:' + in_key(account) in self.known or (is_told and len(parts) == 2):
+            return account
+        found = [match for match in map(NAMED_ACCOUNT.fullmatch, self.known) if match and match[2] == in_key(rest)]
+        return '%s%s:%s' % (ACCOUNT, found[0][1] if len(found) == 1 else 'NS', rest) if len(parts) == 1 and (found or is_told) else ''
+
+
+# ---- stale aggregates
+
+def stale_in(findings: str) -> list[str]:
+    """Stale aggregates in use, by the findings L2 and L6: aggregated roles whose written rules, which a cluster grants, aren't those that they
+    gather."""
+    rows = rows_of(findings)
+    unused = {row[2] for row in rows if row[0] == 'L2'}
+    return [row[2] for row in rows if row[0] == 'L6' and row[2] not in unused]
+
+
+def find_stale(asking: Asking, *more: str) -> list[str]:
+    """The stale aggregates of an export, with files of more objects."""
+    files = [*asking.files('cluster.json', 'namespaced.json'), *more]
+    is_needed = more or asking.files('cluster.json')
+    return stale_in(asking.session.capture(['rbacaudit', 'lint', '--only=L2,L6', *files]).out) if is_needed else []
+
+
+def remark_on_stale(asking: Asking, stale: str, line: list[str], files: list[str], answer: Done) -> None:
+    """Asks again as a cluster decides, by the rules that are written in aggregated roles, and says what it answers."""
+    session, command = asking.session, asking.question.command
+    if command == 'matrix':
+        session.report('stale aggregates (L6 of lint): %s; the cluster grants what is written in them, and this matrix has what they gather' % stale)
+        return
+    # (no other object has the field, and a text that looks like it has a backslash before its last quote; of documents that
+    # have an object, the last counts)
+    text = read_text(asking.files('cluster.json')[0]).replace('"aggregationRule":', '"was":')
+    written = session.capture(['rbacaudit', *line, session.write('as-written.json', text)])
+    differs = ''
+    if command == 'can-i' and {answer.status, written.status} == {0, 1}:
+        differs = 'answers no' if written.status else 'answers yes'
+    elif command in DIFFERS and not answer.status and not written.status and telling(answer) != telling(written):
+        differs = 'has other ' + ('paths' if asking.question.indirect else DIFFERS[command])
+    if differs:
+        session.report('the cluster %s now, because of stale aggregates (L6 of lint): %s' % (differs, stale))
+
+
+def telling(answer: Done) -> set[tuple[str, ...]]:
+    """What an answer says, wherever a rule is written."""
+    return {tuple(row[at] for at in TELLING.get(len(row), (0,))) for row in rows_of(answer.out)}

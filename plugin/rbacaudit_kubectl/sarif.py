@@ -3,24 +3,25 @@
 from __future__ import annotations
 
 import json
+import os
 from collections.abc import Iterator
 from dataclasses import dataclass
-from itertools import groupby, islice
+from itertools import accumulate, groupby, islice
 from typing import Any, Dict
 
 from . import VERSION
 from .answer import Asking
-from .documents import read_document
+from .documents import first_of, read_document
 from .escapes import escaped
 from .fields import is_gathered
-from .manifests import Item, Manifests, is_held, key_of_item, role_of
-from .places import address_of, home_folder, line_of, source_of
+from .manifests import KUSTOMIZATIONS, NAMESPACED, Item, Manifests, is_held, key_of, key_of_item, role_of
 
 Part = Dict[str, Any]   # of the SARIF
 MOST = 25000    # GitHub refuses a file with more results
 FEW = 10        # how many permissions a message lists
 WHO = {'u': 'The user ', 'g': 'The group ', 'r': 'Whoever has '}
 SCHEMA = 'https://docs.oasis-open.org/sarif/sarif/v2.1.0/os/schemas/sarif-schema-2.1.0.json'
+DEEPEST = 100   # objects and lists within each other, of what is read for its lines
 
 
 @dataclass(frozen=True)
@@ -181,10 +182,9 @@ def changes_of(sides: list[Side], rows: list[list[str]]) -> Iterator[Part]:
             for row in group:
                 by_binding.setdefault(row[7], []).append(row)
             for binding, some in by_binding.items():
-                listed = ', '.join(map(permission_of, some[:FEW])) + (' and %d more' % (len(some) - FEW) if len(some) > FEW else '')
                 fields = {'who': WHO[who[0]] + shown(who[2:]), 'permissions': '%d permission%s' % (len(some), 's'[len(some) == 1:]),
                           'where': {'-': '', '*': ' in all namespaces'}.get(where, ' in the namespace ' + shown(where)),
-                          'by': '' if binding == '-' else ', granted%s by %s' % (' before' * at, shown(binding)), 'listed': listed}
+                          'by': '' if binding == '-' else ', granted%s by %s' % (' before' * at, shown(binding)), 'listed': first_of([*map(permission_of, some)], FEW)}
                 yield result_of(DIFF, at, fields, [who, where, binding], *locations_of(sides, 1 - at, who, binding))
 
 
@@ -219,3 +219,68 @@ def is_same(sides: list[Side], key: str) -> bool:
     """Whether manifests have the object on both sides, and have it in the same way."""
     found = [side.objects.get(key, ({}, '')) for side in sides]
     return bool(found[0][1] and found[1][1]) and found[0][0] == found[1][0]
+
+
+# ---- where objects stand in manifests: the address of a file, and the lines of the names in it
+
+def source_of(origin: str) -> str:
+    """The file to show for what was read from there: of a folder, its kustomization. What is no file of a repository has none."""
+    if origin.startswith(('/dev/', '/proc/')):
+        return ''
+    return next(filter(os.path.isfile, [origin, *(os.path.join(origin, name) for name in KUSTOMIZATIONS)]), '')
+
+
+def home_folder() -> str:
+    """The folder in which the plugin is called, by the name that the caller has for it."""
+    named = os.environ.get('PWD', '')
+    return named if os.path.isabs(named) and os.path.exists(named) and os.path.samefile(named, '.') else os.getcwd()
+
+
+def address_of(path: str, home: str) -> str:
+    """The address of a file: from the folder `home`, if it is below that. (.. goes back by the name, as in a shell)"""
+    from urllib.parse import quote
+    path, home = ('/' + os.path.normpath(os.path.join(home, name)).lstrip('/') for name in (path, home))
+    below = os.path.join(home, '')
+    return quote(os.fsencode(path[len(below):])) if path.startswith(below) else 'file://' + quote(os.fsencode(path))
+
+
+def line_of(read: dict[str, dict[str, int]], path: str, key: str) -> int:
+    """The line with the name of an object in a file, or 1 where nobody can tell. The names of files that were read are kept."""
+    if path not in read:
+        read[path] = dict(names_in(path))
+    kind, _, name = key.partition('/')
+    # (an object may have got its namespace from -n)
+    bare = '%s/default/%s' % (kind, name.partition('/')[2]) if kind in NAMESPACED else key
+    return read[path].get(key, read[path].get(bare, 1))
+
+
+def names_in(path: str) -> Iterator[tuple[str, int]]:
+    """The objects in a file, with the line of each name, as far as PyYAML reads it. Without PyYAML there are none."""
+    import importlib
+    import site
+    try:
+        site.main()  # (the plugin starts without the packages of others)
+        yaml = importlib.import_module('yaml')
+    except ImportError:
+        return
+    loader = getattr(yaml, 'CSafeLoader', yaml.SafeLoader)
+    try:
+        with open(path, 'rb') as file:
+            text = file.read()
+        events = (type(event).__name__ for event in yaml.parse(text, loader))
+        if max(accumulate(name.endswith('StartEvent') - name.endswith('EndEvent') for name in events)) <= DEEPEST:
+            for document in yaml.compose_all(text, loader):
+                items = member(document, 'items')
+                for item in [document] if items is None else items.value:
+                    metadata = member(item, 'metadata')
+                    parts = member(item, 'kind'), member(metadata, 'namespace'), member(metadata, 'name')
+                    if parts[2] is not None:
+                        yield key_of(*(str(part.value) if part else '' for part in parts)), parts[2].start_mark.line + 1
+    except (OSError, ValueError, yaml.YAMLError):
+        return
+
+
+def member(node: Any, name: str) -> Any:
+    """The value of a member of an object of YAML: of several, the last."""
+    pairs = node.value if getattr(node, 'id', '') == 'mapping' else []
+    return next((value for key, value in reversed(pairs) if key.value == name), None)

@@ -12,68 +12,14 @@ from collections.abc import Iterable, Iterator, Mapping, Sequence
 from dataclasses import dataclass
 
 from . import VERSION
-from .errors import Ended, Refused
 from .escapes import bytes_of, escaped
 from .escapes import text_of as text_of_bytes
 from .fields import LACKS, NUMBER, REMARK, SHAPES, Row, Shape, text_of, words_of
 from .table import Table
-from .terminal import has_colors, is_terminal, print_text, report
+from .terminal import Ended, Refused, has_colors, print_text, report
 
 PROGRAM = 'rbacaudit-show'
 CHOICES = {'-o': ('format', 'table', 'wide', 'json', 'name'), '--color': ('color', 'auto', 'always', 'never')}
-USAGE = '''\
-Show the lines of rbacaudit: as a table, as JSON, or as names.
-
-  rbacaudit rules u:kim *.json | rbacaudit-show [-o FORMAT]
-
-  -o FORMAT, --output FORMAT
-                 table  aligned columns under a head (default). On a terminal a
-                        line is no longer than the screen: the widest columns
-                        are cut, and a cut field ends in ...
-                 wide   the same, and nothing is cut
-                 json   an object for each line, on a line of its own
-                 name   only who or what a line is about, once if several
-                        lines in a row are about the same
-  --no-headers   a table without its head
-  --color WHEN   auto (default), always or never. In a table + is green, - is
-                 red, and powers are bold: permissions by which somebody takes
-                 over somebody else. auto: on a terminal, unless TERM is dumb
-                 or NO_COLOR is set
-  --rules FILE   lines of rbacaudit rules: in a table of --why, the words of
-                 the rule are below each row, if the file has the rule
-  --indirect     take lines that could also be of paths as lines of who-can
-                 --indirect
-  -h, --help     print help
-  -V, --version  print version
-
-rbacaudit-show knows the command by the number of fields and the first field:
-  can-i          yes or no; BINDING ROLE SOURCE RULE SUBJECT
-  can-i --why-not
-                 WHAT HAS BINDING ROLE SOURCE RULE SUBJECT
-  who-can        WHO BINDING
-  who-can --why  WHO BINDING ROLE SOURCE RULE SUBJECT
-  who-can --indirect
-                 STEPS WHO WHERE TO WHERE STEP BINDING ROLE SOURCE RULE SUBJECT
-  rules          BINDING ROLE SOURCE RULE SUBJECT VERBS GROUPS RESOURCES NAMES
-                 URLS
-  matrix         WHO NAMESPACE VERB GROUP RESOURCE NAME BINDING; end, or next
-                 and a token
-  lint           CODE NAME OBJECT PLACE DETAIL, and FILE from the plugin
-  powers         STEP WHO WHERE BINDING ROLE SOURCE RULE SUBJECT
-  paths          STEPS TO WHERE FROM WHERE STEP BINDING ROLE SOURCE RULE SUBJECT
-  diff           CHANGE WHO NAMESPACE VERB GROUP RESOURCE NAME BINDING
-  diff --summary of the plugin: WHO NAMESPACE BINDING GAINED LOST POWERS_GAINED
-                 POWERS_LOST, and at last total in the place of WHO
-
-All lines have to be of one command. The answer of who-can --indirect begins
-with lines whose STEPS is 0. Without them, a line may be taken as one of paths:
-use --indirect. The first 500 lines of a table set the widths of its columns.
-The width of the screen is $COLUMNS or, if it isn't set, the terminal's.
-
-Exit status: 0 all lines are shown; 2 an error, also a line that no command
-prints. The status of rbacaudit itself is lost in a pipe: with set -o pipefail
-bash keeps it.
-'''
 
 # ---- reading
 
@@ -207,7 +153,8 @@ def read_options(words: Sequence[str]) -> dict[str, str]:
         if word.startswith('-o') and word != '-o':
             name, has_value, value = '-o', '=', word[2:].removeprefix('=')
         if word in ('-h', '--help', '-V', '--version'):
-            print_text(USAGE if word in ('-h', '--help') else '%s %s\n' % (PROGRAM, VERSION))
+            from .help import help_of_show
+            print_text(help_of_show() if word in ('-h', '--help') else '%s %s\n' % (PROGRAM, VERSION))
             raise Ended(0)
         if word in ('--no-headers', '--indirect'):
             found[word] = 'yes'
@@ -232,28 +179,20 @@ def check_values(found: Mapping[str, str]) -> None:
         raise Refused("can't read " + found['--rules'])
 
 
-def width_of_screen(environment: Mapping[str, str]) -> int:
-    """How many columns the terminal has that standard output goes to."""
-    given = environment.get('COLUMNS', '')
-    if re.fullmatch(NUMBER, given):
-        return int(given)
-    try:
-        return os.get_terminal_size(1).columns or 80
-    except OSError:
-        return 80
-
-
 def show(lines: Iterable[bytes], form: str, *, headers: bool = True, color: str = 'auto', rules: str | None = None,
          indirect: bool = False) -> int:
     """Writes lines in a form, as they come, and gives the status. `rules` are lines of rules for a table."""
-    reader, on_terminal = Reader(indirect), is_terminal(1)
+    reader, on_terminal = Reader(indirect), os.isatty(1)
     given = (text_of_bytes(line).removesuffix('\n') for line in lines)
     if form == 'json':
         texts = objects_of(reader.rows_of(given))
     elif form == 'name':
         texts = names_of(reader.rows_of(map(escaped, given) if on_terminal else given))
     else:
-        screen = width_of_screen(os.environ) if form == 'table' and on_terminal else 0
+        screen = 0
+        if form == 'table' and on_terminal:
+            from shutil import get_terminal_size
+            screen = get_terminal_size().columns
         table = Table(headers, has_colors(color, os.environ), on_terminal, screen)
         table.take_rules((rules or '').split('\n'))
         texts = table.texts_of(reader.rows_of(map(table.seen, given)))
@@ -279,7 +218,7 @@ def lines_in(number: int) -> Iterator[bytes]:
 def run(words: Sequence[str]) -> int:
     """Shows what standard input has."""
     options, rules = read_options(words), ''
-    if is_terminal(0):
+    if os.isatty(0):
         raise Refused('lines come from a pipe or a file: rbacaudit rules u:kim *.json | rbacaudit-show')
     if options['--rules']:
         with open(options['--rules'], encoding='utf-8', errors='surrogateescape', newline='\n') as file:

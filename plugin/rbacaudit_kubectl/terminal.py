@@ -1,4 +1,4 @@
-"""What reaches a terminal: messages that nobody can take for another's, lines of progress, and answers."""
+"""What reaches a terminal: messages that nobody can take for another's, lines of progress, and answers; and how a run ends before its end."""
 
 from __future__ import annotations
 
@@ -11,6 +11,18 @@ from dataclasses import dataclass
 from .escapes import bytes_of, escaped, on_one_line
 
 PLUGIN = 'kubectl-rbacaudit'
+
+
+class Refused(Exception):
+    """What is asked can't be done: its text is reported, and the status is 2."""
+
+
+class Ended(Exception):
+    """The run ends with this status, and all has been said."""
+
+    def __init__(self, status: int) -> None:
+        super().__init__(status)
+        self.status = status
 
 
 def say(text: str) -> None:
@@ -26,17 +38,9 @@ def report(message: str, prefix: str = PLUGIN) -> None:
     say('%s: %s\n' % (prefix, on_one_line(message)))
 
 
-def is_terminal(number: int) -> bool:
-    """Whether a file by its number is a terminal; one that is closed is none."""
-    try:
-        return os.isatty(number)
-    except OSError:
-        return False
-
-
 def print_text(text: str, as_json: bool = False) -> None:
     """Writes a text to standard output, escaped if that is a terminal. Faults are the caller's."""
-    sys.stdout.buffer.write(bytes_of(escaped(text, as_json) if is_terminal(1) else text))
+    sys.stdout.buffer.write(bytes_of(escaped(text, as_json) if os.isatty(1) else text))
     sys.stdout.buffer.flush()
 
 
@@ -44,7 +48,7 @@ def has_colors(when: str, environment: Mapping[str, str]) -> bool:
     """Whether standard output has colors, by the word after --color."""
     if when != 'auto':
         return when == 'always'
-    return (is_terminal(1) and not environment.get('NO_COLOR')
+    return (os.isatty(1) and not environment.get('NO_COLOR')
             and environment.get('TERM', '') not in ('', 'dumb'))
 
 
@@ -57,7 +61,7 @@ class Progress:
 
     def draw(self, text: str) -> None:
         """Puts a text into the line."""
-        if is_terminal(2):
+        if os.isatty(2):
             self.is_drawn = True
             say('\r%s: %s' % (self.prefix, on_one_line(text)))
 

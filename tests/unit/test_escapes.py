@@ -26,7 +26,11 @@ def hexed(one):
 
 class Escapes(unittest.TestCase):
     def test_every_character(self):
+        # (Python 3.9 to 3.11 don't know each character of Unicode 15)
+        is_older = int(unicodedata.unidata_version.partition('.')[0]) < 15
         for one in map(chr, range(0x20, 0x110000)):
+            if is_older and unicodedata.category(one) == 'Cn':
+                continue
             wanted = hexed(one) if is_unseen(one) else one
             if escapes.escaped(one) != wanted:
                 self.fail('U+%04X: %r' % (ord(one), escapes.escaped(one)))

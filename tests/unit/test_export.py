@@ -7,7 +7,7 @@ import tempfile
 import time
 import unittest
 
-from rbacaudit_kubectl.errors import Refused
+from rbacaudit_kubectl.terminal import Refused
 from rbacaudit_kubectl.export import gaps_of, look_at_about, old_files
 from rbacaudit_kubectl.kubectl import is_cut, lines_said, say_kubectl, version_name
 from rbacaudit_kubectl.options import read_options

@@ -6,7 +6,7 @@ import tempfile
 import unittest
 
 from rbacaudit_kubectl import manifests
-from rbacaudit_kubectl.errors import Refused
+from rbacaudit_kubectl.terminal import Refused
 
 BINDING = {'apiVersion': 'rbac.authorization.k8s.io/v1', 'kind': 'RoleBinding', 'metadata': {'name': 'b\\\n'},
            'roleRef': {'kind': 'ClusterRole', 'name': 'view'}}
@@ -60,6 +60,20 @@ class Folder(unittest.TestCase):
         self.assertEqual(calls[1].words[2:], ['-f', '"%s"' % self.at('m/a,""b"".yaml'), '-f', '/tmp/mark.json'])
         self.put('m/Kustomization')
         self.assertEqual([call.words for call in manifests.calls_for(self.at('m'), 'mark')], [['-k', self.at('m')]])
+
+    def test_files_in_a_row_share_a_call(self):
+        self.put('a.yaml', 'b.yaml', 'm/c.yaml', 'd.yaml', 'e.json')
+        given = [self.at(name) for name in ('a.yaml', 'b.yaml', 'm', 'd.yaml')]
+        self.assertEqual([(call.path, call.files) for call in manifests.calls_of(given, 'mark')],
+                         [('', given[:2]), (given[2], [self.at('m/c.yaml')]), (given[3], given[3:])])
+        self.assertEqual([(call.path, call.files) for call in manifests.calls_of(['-', *given[:1], '/dev/null'], 'mark')],
+                         [('-', ['standard input']), (given[0], given[:1]), ('/dev/null', ['/dev/null'])])
+        # (kubectl refuses a file without objects)
+        with open(self.at('b.yaml'), 'w', encoding='utf-8') as file:
+            file.write('# nothing\n')
+        self.assertEqual([call.path for call in manifests.calls_of([*given[:2], *given[3:], self.at('e.json')], 'mark')], [*given[:2], ''])
+        with self.assertRaisesRegex(Refused, 'there is no .*/no.yaml'):
+            list(manifests.calls_of([*given, self.at('no.yaml')], 'mark'))
 
     def test_files_that_need_a_mark(self):
         for text, is_one in (('kind: Role\n', True), ('# x\nmetadata: {name: x}\nkind: Role', True), ('# x\n', False), ('', False), (' kind: Role', False),

@@ -5,7 +5,7 @@ import tempfile
 import unittest
 from unittest import mock
 
-from rbacaudit_kubectl import places
+from rbacaudit_kubectl import sarif
 
 try:
     import yaml
@@ -40,11 +40,11 @@ class Addresses(unittest.TestCase):
     def test_from_home(self):
         for path, address in (('m/a b.json', 'm/a%20b.json'), ('./m//x/../c#1?.json', 'm/c%231%3F.json'), ('/home/kim/m/x', 'm/x'),
                               ('../kim/m/\udcff', 'm/%FF'), ('../beside/x', 'file:///home/beside/x'), ('/home/kimono/x', 'file:///home/kimono/x')):
-            self.assertEqual(places.address_of(path, '/home/kim'), address)
-        self.assertEqual(places.address_of('/x', '/'), 'x')
+            self.assertEqual(sarif.address_of(path, '/home/kim'), address)
+        self.assertEqual(sarif.address_of('/x', '/'), 'x')
 
     def test_what_has_no_file(self):
-        self.assertEqual([places.source_of(origin) for origin in ('standard input', '/dev/stdin', '/proc/self/fd/0', '', __file__)], [''] * 4 + [__file__])
+        self.assertEqual([sarif.source_of(origin) for origin in ('standard input', '/dev/stdin', '/proc/self/fd/0', '', __file__)], [''] * 4 + [__file__])
 
 
 class Lines(unittest.TestCase):
@@ -57,7 +57,7 @@ class Lines(unittest.TestCase):
         with open(path, 'w', encoding='utf-8', newline='') as file:
             file.write(text)
         read = {}
-        return {key: places.line_of(read, path, key) for key in LINES}
+        return {key: sarif.line_of(read, path, key) for key in LINES}
 
     @unittest.skipUnless(yaml, 'PyYAML')
     def test_lines(self):

@@ -3,12 +3,12 @@
 import unittest
 
 from rbacaudit_kubectl.answer import Asking, Counts, bindings_of
-from rbacaudit_kubectl.askers import Names
+from rbacaudit_kubectl.documents import first_three
 from rbacaudit_kubectl.listed import Type
 from rbacaudit_kubectl.options import Options
 from rbacaudit_kubectl.processes import Session
 from rbacaudit_kubectl.question import Question, read_question
-from rbacaudit_kubectl.remarks import as_written, first_three, on_implied, on_mounts, on_own_object, on_place, on_scope, on_url, universe_faults
+from rbacaudit_kubectl.remarks import Names, as_written, on_implied, on_mounts, on_own_object, on_place, on_scope, on_url, universe_faults
 
 ROLES = Type('rbac.authorization.k8s.io', 'clusterroles', False)
 
