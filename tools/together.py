@@ -254,7 +254,7 @@ class Crate:
         for edit, _ in batch:
             texts = edit.made_in(texts)
             moved.update(self.moved_by(edit))
-        answers = [it for edit, _ in batch for it in edit.answers]
+        answers = [(self.named(function) or function, answer) for edit, _ in batch for function, answer in edit.answers]
         said = self.said_of(texts, {self.named(it) for _, functions in batch for it in functions}, moved, answers)
         if not ENDED.search(said):
             half = len(batch) // 2
