@@ -140,8 +140,8 @@ fn is_empty(line: &str) -> bool
 ///
 /// # Errors
 ///
-/// G1 to G9, exactly if the line has that fault and no item before, and no number before, has
-/// another; otherwise `NoMemory`, only if the call runs out of memory.
+/// G1 to G9, exactly if that is the line's fault: of an event the one with the least number, of a
+/// list that of its first event with a fault. `NoMemory` only if it runs out of memory.
 #[tactic(auto, unfolding(crate::specs::Line::requests_in))]
 pub fn requests_in_line(alloc: Global, line: &str) -> Result<Vec<LoggedRequest>, LineFault>
     ensures { TellsAll result (requests_in line.now) }
