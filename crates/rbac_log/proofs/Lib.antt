@@ -1,0 +1,5 @@
+pub mod AccountParts
+pub mod Accounts
+pub mod Counting
+pub mod Cuts
+pub mod Proper

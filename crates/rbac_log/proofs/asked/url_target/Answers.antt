@@ -1,0 +1,6 @@
+use Rattle.std.proofs.Common.{◌∙◌}
+use Rattle.rbac_log.proofs.Proper.{made}
+use Rattle.rbac_log.proofs.asked.url_target.Goals as goal
+
+pub returns : goal.returns
+returns c = c.ok.ensures.value ∙ made _ c.url.result c.url.ensures
