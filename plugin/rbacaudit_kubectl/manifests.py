@@ -305,13 +305,13 @@ def left_out(folder: str) -> list[str]:
     said = re.sub(r'(?m)(^|\s)#.*$', '', ''.join(read_text(os.path.join(folder, name)) for name in KUSTOMIZATIONS))
     found = []
     for path, folders, files in os.walk(folder):
-        folders[:] = sorted(name for name in folders if not is_kustomized(os.path.join(path, name)))
-        for name in sorted(files):
+        folders[:] = [name for name in folders if not is_kustomized(os.path.join(path, name))]
+        for name in files:
             within = os.path.relpath(os.path.join(path, name), folder)
             is_named = re.search(r'(?<![\w/.-])(?:\./)?%s(?![\w/.-])' % re.escape(within), said)
             if name.endswith(('.json', '.yaml', '.yml')) and name not in KUSTOMIZATIONS and not is_named:
                 found.append(os.path.join(folder, within))
-    return found
+    return sorted(found)
 
 
 def check_item(item: Item, origin: str) -> None:
