@@ -80,13 +80,13 @@ def text():
 
 
 def seconds_of(words, **how):
-    """The least processor time that a command takes in some runs."""
+    """The least processor time that a command takes in some runs: on a busy machine most of them take more."""
     def spent():
         used = resource.getrusage(resource.RUSAGE_CHILDREN)
         return used.ru_utime + used.ru_stime
 
     times = []
-    for _ in range(5):
+    for _ in range(25):
         before = spent()
         subprocess.run(words, stdin=subprocess.DEVNULL, stdout=subprocess.PIPE, check=True, timeout=60, **how)
         times.append(spent() - before)
