@@ -428,23 +428,7 @@ def krew(room):
 CURL = """#!/bin/sh
 [ "$#,$1,$3" = "3,-fsSLo,https://downloads.example.com/%s" ] && cp '%s' "$2"
 """
-JOB_TOOLS = 'bash', 'comm', 'cut', 'env', 'fold', 'git', 'grep', 'mktemp', 'sed', 'wc', *PLUGIN_TOOLS
-NEW = """### Gained: 10. Lost: 0. New findings: 2.
-
-    +\tu:system:serviceaccount:ci:deploy-checkout\tcheckout\tget\t-\tsecrets\t*\tRoleBinding/checkout/ci-deploys
-    +\tu:system:serviceaccount:ci:deploy-checkout\tcheckout\tlist\t-\tsecrets\t*\tRoleBinding/checkout/ci-deploys
-    +\tu:system:serviceaccount:ci:deploy-payments\tpayments\tget\t-\tsecrets\t*\tRoleBinding/payments/ci-deploys
-    +\tu:system:serviceaccount:ci:deploy-payments\tpayments\tlist\t-\tsecrets\t*\tRoleBinding/payments/ci-deploys
-    +\tu:system:serviceaccount:ci:deploy-payments\tpayments-staging\tget\t-\tsecrets\t*\tRoleBinding/payments-staging/ci-deploys
-    +\tu:system:serviceaccount:ci:deploy-payments\tpayments-staging\tlist\t-\tsecrets\t*\tRoleBinding/payments-staging/ci-deploys
-    +\tu:system:serviceaccount:ci:deploy-search\tsearch\tget\t-\tsecrets\t*\tRoleBinding/search/ci-deploys
-    +\tu:system:serviceaccount:ci:deploy-search\tsearch\tlist\t-\tsecrets\t*\tRoleBinding/search/ci-deploys
-    +\tu:system:serviceaccount:search:indexer\tsearch\tget\t-\tconfigmaps\t*\tRoleBinding/search/indexer
-    +\tu:system:serviceaccount:search:indexer\tsearch\tlist\t-\tconfigmaps\t*\tRoleBinding/search/indexer
-    L5\taccount-without-namespace\tClusterRoleBinding/indexer-metrics\t1\tindexer
-    L5\taccount-without-namespace\tClusterRoleBinding/indexer-nodes\t1\tindexer
-"""
-SAME = '### Gained: 0. Lost: 0. New findings: 0.\n\n'
+JOB_TOOLS = 'bash', 'comm', 'cut', 'env', 'fold', 'git', 'grep', 'mkdir', 'mktemp', 'sed', 'wc', *PLUGIN_TOOLS
 
 
 def part_of(job, key, margin):
@@ -453,39 +437,26 @@ def part_of(job, key, margin):
     return re.sub('^' + margin, '', lines, flags=re.M)
 
 
-def jobs_below(heading):
-    """The jobs for GitHub and for GitLab below a heading of docs/RECIPES.md."""
-    text = text_of('docs', 'RECIPES.md').partition('\n### %s\n' % heading)[2].partition('\n## ')[0]
-    return re.findall(r'^```yaml\n(.*?)^```', text, re.S | re.M)[:2]
-
-
-def shell_parts(github, gitlab):
-    """The shell parts of the jobs, as GitHub and GitLab run them. A line of YAML may stand between quotes."""
-    script = re.sub(r'^"(.*)"$', r'\1', part_of(gitlab, 'script', '    - '), flags=re.M)
-    return part_of(github, 'run', ' ' * 10), 'set -eo pipefail\n' + script
-
-
 def jobs_text():
-    """The shell parts of the jobs for a folder of JSON, and the script that both call."""
-    github, gitlab = jobs_below('A job for each change')
-    script = next(command for command, _ in steps(text_of('docs', 'RECIPES.md')) if command.startswith('cat > review.sh '))
-    return (*shell_parts(github, gitlab), part_of(gitlab, 'after_script', '    - '), script)
+    """The jobs of docs/RECIPES.md for GitHub and for GitLab, and the commands that write the scripts which these call."""
+    text = text_of('docs', 'RECIPES.md')
+    jobs = re.findall(r'^```yaml\n(.*?)^```', text.partition('\n### A check in CI\n')[2].partition('\n## ')[0], re.S | re.M)
+    return jobs, '\n'.join(command for command, _ in steps(text) if re.match(r'cat > (review|results|quality)\.sh ', command))
 
 
-def origin(room, script):
-    """A repository with the example cluster. In `more`, more is allowed, and the check is off."""
-    folder = room.at('origin')
-    os.makedirs(folder + '/rbac')
-    for path in glob.glob(os.path.join(TOP, 'examples/cluster/*.json')):
-        shutil.copy(path, folder + '/rbac')
-    run(['bash', '-c', script], folder)
-    more = text_of('examples/cluster/change/roles.json')
-    return with_branches(folder, {'same': {'README': 'roles'}, 'bad': {'rbac/roles.json': '{'},
-                                  'more': {'rbac/roles.json': more, 'review.sh': 'exit 0'}})
+def shell_parts(has_results, options=''):
+    """The shell parts of both jobs, as GitHub and GitLab run them, with more options. Without results beside the change, the lines are
+    left out that the document names for this."""
+    (github, gitlab), _ = jobs_text()
+    script = re.sub(r'^"(.*)"$', r'\1', part_of(gitlab, 'script', '    - '), flags=re.M)
+    for shell in part_of(github, 'run', ' ' * 10), 'set -eo pipefail\n' + script:
+        if not has_results:
+            shell = re.sub(r'^.*/(?:results|quality)\.sh".*\n', '', shell, flags=re.M)
+        yield re.sub(r'^.*/(?:results|review)\.sh".*$', lambda line: line[0] + options, shell, flags=re.M)
 
 
 def with_branches(folder, branches):
-    """Makes a repository of a folder, with branches that have other texts in these files; its address."""
+    """Makes a repository of a folder, with branches that have other texts in these files, or lack them; its address."""
     git(folder, 'init', '-q', '-b', 'main')
     commit(folder, {})
     for branch, files in branches.items():
@@ -496,7 +467,10 @@ def with_branches(folder, branches):
 
 def commit(folder, files):
     for name, text in files.items():
-        write(text, folder, name)
+        if text is None:
+            os.remove(os.path.join(folder, name))
+        else:
+            write(text, folder, name)
     git(folder, 'add', '-A')
     git(folder, 'commit', '-q', '-m', 'Roles')
 
@@ -522,31 +496,6 @@ class Job:
         return bytes_of(self.summary).decode() if os.path.exists(self.summary) else None
 
 
-def jobs(room):
-    """Both jobs: more is allowed, the same is, a file is bad, the archive has another sum."""
-    github, gitlab, after, script = jobs_text()
-    if not has_kubectl(room):
-        return
-    address = origin(room, script)
-    for branch, status, told in (('more', 1, NEW), ('same', 0, SAME)):
-        job = Job(room, address, branch)
-        got = job.run(github)
-        holds('GitHub: ' + branch, got[0] == status and job.told() == told, (got, job.told()))
-        job = Job(room, address, branch)
-        got = job.run(gitlab)
-        holds('GitLab: ' + branch, got[0] == status and job.run(after) == (0, told), got)
-    for name, shell in (('GitHub', github), ('GitLab', gitlab)):
-        job = Job(room, address, 'bad')
-        got = job.run(shell)
-        holds(name + ': bad', got[0] == 2 and "kubectl can't read rbac" in got[1] and not job.told(), got)
-        job = Job(room, address, 'same')
-        got = job.run(shell, SHA256='0' * 64)
-        holds(name + ': another sum', got[0] != 0 and 'Gained' not in got[1] and not job.told(), got)
-        job.run(shell)
-        holds(name + ': once more in the same folder', job.run(shell)[0] == 0)
-    hostile(room, address, 'rbac/roles.json', (github, gitlab), ('review.md', 'changes', 'gained', 'found', 'main.json'))
-
-
 # A change that carries programs, a script, links, hidden files and files of folders within, and a name that hides.
 HOSTILE = '''{"apiVersion": "rbac.authorization.k8s.io/v1", "kind": "ClusterRoleBinding", "metadata": {"name": "%s"},
 "roleRef": {"apiGroup": "rbac.authorization.k8s.io", "kind": "ClusterRole", "name": "cluster-admin"}, "subjects": [{"kind": "User", "name": "%s"}]}'''
@@ -554,22 +503,24 @@ OWN_PROGRAM = '#!/bin/sh\necho ran >> ../ran\n'
 
 
 # What a job leaves, beside its log and its summary.
-LEFT = 'review.md', 'summary.md', 'quality.json', '../results/lint.sarif', '../results/diff.sarif'
+LEFT = 'summary.md', 'quality.json', '../results/lint.sarif', '../results/diff.sarif'
 
 
-def hostile(room, address, reads, shells, links, status=1):
+def hostile(room, address, shells):
     """A job runs nothing of the change, writes through no link of it, and reads what kubectl reads."""
-    folder = room.at('hostile-' + re.sub(r'\W', '-', reads))
+    folder = room.at('hostile')
     git(room.path, 'clone', '-q', address, folder)
     git(folder, 'checkout', '-q', '-b', 'hostile', 'origin/main')
+    scripts = 'review.sh', 'results.sh', 'quality.sh'
     programs = [os.path.join(place, name) for place in ('rbacaudit-0/bin', 'rbacaudit-0.1.0-x86_64-linux/bin', 'bin', 'main')
-                for name in ('git', 'kubectl', 'kubectl-rbacaudit', 'rbacaudit', 'tr', 'sed', 'jq', 'review.sh', 'summary.sh', 'quality.sh')]
-    for name, text in [*((name, OWN_PROGRAM) for name in programs), ('rbac/.hidden.json', HOSTILE % ('hidden', 'eve')), ('rbac/in/.x/y.yaml', HOSTILE % ('within', 'x\u202ey')),
-                       ('main/rbac/all.json', HOSTILE % ('main', 'eve')), ('rbacaudit.tar.gz', 'no archive')]:
+                for name in ('git', 'kubectl', 'kubectl-rbacaudit', 'rbacaudit', 'tr', 'sed', 'jq', *scripts)]
+    for name, text in [*((name, OWN_PROGRAM) for name in (*programs, *scripts)), ('rbac/.hidden.json', HOSTILE % ('hidden', 'eve')),
+                       ('rbac/in/.x/y.yaml', HOSTILE % ('within', 'x\u202ey')), ('main/rbac/all.json', HOSTILE % ('main', 'eve')),
+                       ('rbacaudit.tar.gz', 'no archive')]:
         os.makedirs(os.path.dirname(os.path.join(folder, name)), exist_ok=True)
         write(text, folder, name)
         os.chmod(os.path.join(folder, name), 0o755)
-    for name in links:
+    for name in ('summary.md', 'quality.json', 'results', 'summary', 'changes', 'found', 'log', 'read.json', 'diff.sarif'):
         os.symlink('../stolen', os.path.join(folder, name))
     git(folder, 'add', '-Af')
     git(folder, 'commit', '-q', '-m', 'Better roles')
@@ -578,11 +529,12 @@ def hostile(room, address, reads, shells, links, status=1):
         job = Job(room, address, 'hostile')
         write('safe', job.folder, 'stolen')
         got = job.run(shell, **({'GITHUB_STEP_SUMMARY': ''} if name == 'GitLab' else {}))
-        told = got[1] + (job.told() or '') + ''.join(bytes_of(job.work, file).decode() for file in LEFT if os.path.isfile(os.path.join(job.work, file)))
-        holds('%s, a hostile change of %s: nothing of it runs' % (name, reads), not os.path.exists(os.path.join(job.folder, 'ran')) and got[0] == status, got)
-        holds('%s, a hostile change of %s: no link is written through' % (name, reads), bytes_of(job.folder, 'stolen') == b'safe', bytes_of(job.folder, 'stolen'))
-        holds('%s, a hostile change of %s: all files are read' % (name, reads), 'ClusterRoleBinding/hidden' in told and 'ClusterRoleBinding/within' in told, told)
-        holds('%s, a hostile change of %s: nothing hides' % (name, reads), '\u202e' not in told, told)
+        told = got[1] + (job.told() or '') + ''.join(bytes_of(job.work, file).decode() for file in LEFT
+                                                     if os.path.isfile(os.path.join(job.work, file)))
+        holds(name + ', a hostile change: nothing of it runs', not os.path.exists(os.path.join(job.folder, 'ran')) and got[0] == 1, got)
+        holds(name + ', a hostile change: no link is written through', bytes_of(job.folder, 'stolen') == b'safe', bytes_of(job.folder, 'stolen'))
+        holds(name + ', a hostile change: all files are read', 'ClusterRoleBinding/hidden' in told and 'ClusterRoleBinding/within' in told, told)
+        holds(name + ', a hostile change: nothing hides', '\u202e' not in told, told)
 
 
 # kubectl as the jobs call it, where there is none.
@@ -613,48 +565,19 @@ def has_kubectl(room):
 
 MORE = '+\tu:system:serviceaccount:shop:ci\tshop\tget\t-\tsecrets\t*\tRoleBinding/shop/ci-deploys\n'
 LESS = ''.join('-\tg:shop-support\tshop\tget\t-\t%s\t*\tRoleBinding/shop/support\n' % type_ for type_ in ('pods', 'pods/log'))
-# What the script of both jobs adds to a pull request.
-MORE_SUMMARY = """### Who gains and loses what
-
-    WHO                              NAMESPACE  BINDING                      GAINED  LOST  POWERS_GAINED  POWERS_LOST
-    u:system:serviceaccount:shop:ci  shop       RoleBinding/shop/ci-deploys  1       0     [secrets]      []
-    total                            -          -                            1       0     [secrets]      []
-"""
-LESS_SUMMARY = """### Who gains and loses what
-
-    WHO             NAMESPACE  BINDING                   GAINED  LOST  POWERS_GAINED  POWERS_LOST
-    g:shop-support  shop       RoleBinding/shop/support  0       2     []             []
-    total           -          -                         0       2     []             []
-"""
-
-
-def manifests(room):
-    """The jobs over manifests, with kubectl or its stand-in: more is allowed, less is, and a file is bad."""
-    if not has_kubectl(room):
-        return
-    folder = shutil.copytree(os.path.join(TOP, 'examples/manifests/main'), room.at('manifests') + '/rbac') + '/..'
-    run(['bash', '-c', next(command for command, _ in steps(text_of('docs', 'RECIPES.md')) if command.startswith('cat > summary.sh '))], folder)
-    less = text_of('examples/manifests/main/support.yaml').partition('---\n')[0]
-    address = with_branches(os.path.normpath(folder), {
-        'more': {'rbac/deployer.yaml': text_of('examples/manifests/change/deployer.yaml')},
-        'less': {'rbac/support.yaml': less}, 'bad': {'rbac/deployer.yaml': 'kind: ClusterRole\n\tname: x\n'}})
-    github, gitlab = shell_parts(*jobs_below('Jobs for pull requests'))
-    for branch, status, changes, summary in (('more', 1, MORE, MORE_SUMMARY), ('less', 0, LESS, LESS_SUMMARY), ('bad', 1, '', None)):
-        job = Job(room, address, branch)
-        got = job.run(github)
-        holds('GitHub, manifests: ' + branch, got[0] == status and changes in got[1] and job.told() == summary, (got, job.told()))
-        holds('GitHub, manifests: %s: the file' % branch, branch != 'bad' or 'rbac/deployer.yaml' in got[1], got)
-        job = Job(room, address, branch)
-        got = job.run(gitlab, GITHUB_STEP_SUMMARY='')
-        path = os.path.join(job.work, 'summary.md')
-        told = bytes_of(path).decode() if os.path.exists(path) else None
-        holds('GitLab, manifests: ' + branch, got[0] == status and changes in got[1] and told == summary, (got, told))
-    hostile(room, address, 'manifests', (github, gitlab), ('summary.md', 'summary', 'log', 'changes'))
-
-
-# Where the results of lint and of diff are: in `more`, in `less`, and of a role that Kubernetes' view gathers.
-SHOWN = {'more': ([], [('gained-permission', 'rbac/deployer.yaml', 5)]), 'less': ([('L2', 'rbac/support.yaml', 5)], [('lost-permission', 'rbac/support.yaml', 15)]),
-         'view': ([('L2', 'rbac/view.yaml', 4)], [('gained-permission', 'rbac/view.yaml', 4)])}
+# What a change of the example cluster gives to whom, and where: three accounts of CI read secrets.
+OF_CI = [('u:system:serviceaccount:ci:deploy-' + team, space, 'RoleBinding/%s/ci-deploys' % space, 2, 0, 'secrets', '')
+         for team, space in (('checkout', 'checkout'), ('payments', 'payments'), ('payments', 'payments-staging'), ('search', 'search'))]
+INDEXER = 'u:system:serviceaccount:search:indexer', 'search', 'RoleBinding/search/indexer', 2, 0, '', ''
+NAMELESS = ['L5\taccount-without-namespace\tClusterRoleBinding/indexer-%s\t1\tindexer' % name for name in ('metrics', 'nodes')]
+CI = 'u:system:serviceaccount:shop:ci', 'shop', 'RoleBinding/shop/ci-deploys', 1, 0, 'secrets', ''
+SUPPORT = 'g:shop-support', 'shop', 'RoleBinding/shop/support', 0, 2, '', ''
+UNUSED = 'L2\tunused-role\tRole/shop/support\t-\t-'
+LOST = 'lost-permission', 'rbac/support.yaml', 15
+# Of each branch: the status, the lines of diff, the lines of the summary, the new findings, and where the results of lint and of diff are.
+BRANCHES = {'same': (0, '', [], [], [], []), 'less': (0, LESS, [SUPPORT], [], [], [LOST]),
+            'unused': (1, LESS, [SUPPORT], [UNUSED], [('L2', 'rbac/support.yaml', 5)], [LOST]),
+            'more': (1, MORE, [CI], [], [], [('gained-permission', 'rbac/deployer.yaml', 5)])}
 OF_VIEW = """apiVersion: rbac.authorization.k8s.io/v1
 kind: ClusterRole
 metadata:
@@ -666,41 +589,102 @@ rules:
 
 
 def places_in(path):
-    """The rule, file and line of each result in a file of SARIF, if it is there."""
-    if not os.path.exists(path):
+    """The rule, file and line of each result in a file of SARIF, if there is one."""
+    if not os.path.exists(path) or not os.path.getsize(path):
         return None
     found = [(it['ruleId'], it['locations'][0]['physicalLocation']) for it in json.loads(bytes_of(path))['runs'][0]['results']]
     return [(rule, where['artifactLocation']['uri'], where['region']['startLine']) for rule, where in found]
 
 
-def scanning(room):
-    """The jobs that show results beside a change: each result has a file of the repository, and a line."""
+def report(rows, findings):
+    """What a job adds to a pull request: who gains and loses how much, as a table, and the new findings."""
+    rows = [(*row[:3], *map(str, row[3:5]), *map('[%s]'.__mod__, row[5:])) for row in [
+        *rows, ('total', '-', '-', *(sum(row[at] for row in rows) for at in (3, 4)), *(max([row[at] for row in rows], default='') for at in (5, 6)))]]
+    table = ['WHO NAMESPACE BINDING GAINED LOST POWERS_GAINED POWERS_LOST'.split(), *rows]
+    widths = [max(map(len, column)) for column in zip(*table)]
+    lines = ['  '.join(map(str.ljust, row, widths)).rstrip() for row in table]
+    below = ''.join('    %s\n' % line for line in lines), len(findings), ''.join('    %s\n' % line for line in findings)
+    return '### Who gains and loses what\n\n%s\n### New findings: %d\n\n%s' % below
+
+
+def has_results(room):
+    """Whether this machine has what shows results beside a change; the tools of jobs have it then."""
+    if not shutil.which('jq') or yaml is None:
+        skipped('jq and PyYAML', 'the results that jobs show beside a change')
+        return False
+    if not os.path.exists(room.at('job-tools', 'jq')):
+        os.symlink(shutil.which('jq'), room.at('job-tools', 'jq'))
+    return True
+
+
+def jobs(room):
+    """Both jobs, over manifests: more is allowed, less is, a role is unused, the same is, a file is bad, the archive has another sum."""
     if not has_kubectl(room):
         return
-    if not shutil.which('jq') or yaml is None:
-        skipped('jq and PyYAML', 'the jobs of code scanning')
+    folder = room.at('manifests')
+    shutil.copytree(os.path.join(TOP, 'examples/manifests/main'), folder + '/rbac')
+    run(['bash', '-c', jobs_text()[1]], folder)
+    address = with_branches(folder, {
+        'more': {'rbac/deployer.yaml': text_of('examples/manifests/change/deployer.yaml')}, 'less': {'rbac/support.yaml': None},
+        'same': {'README': 'roles'},
+        'unused': {'rbac/support.yaml': text_of('examples/manifests/main/support.yaml').partition('---\n')[0]},
+        'view': {'rbac/view.yaml': OF_VIEW}, 'bad': {'rbac/deployer.yaml': 'kind: ClusterRole\n\tname: x\n'}})
+    are_shown = has_results(room)
+    shells = dict(zip(('GitHub', 'GitLab'), shell_parts(are_shown)))
+    for name, shell in shells.items():
+        for branch, (status, changes, *more) in BRANCHES.items():
+            job, told, places, _ = ended(room, address, branch, name, shell)
+            holds('%s: %s' % (name, branch), (job[0], told) == (status, report(*more[:2])) and changes in job[1], (job, told))
+            holds('%s: %s: results' % (name, branch), not are_shown or places == shown_by(name, *more[2:]), places)
+        _, _, places, _ = ended(room, address, 'view', name, shell)
+        wanted = shown_by(name, [('L2', 'rbac/view.yaml', 4)], [('gained-permission', 'rbac/view.yaml', 4)])
+        holds(name + ": what Kubernetes' view gathers: results", not are_shown or places == wanted, places)
+        job, told, _, _ = ended(room, address, 'bad', name, shell)
+        holds(name + ': bad', job[0] == 1 and 'rbac/deployer.yaml' in job[1] and not told, job)
+        job, told, _, again = ended(room, address, 'same', name, shell, SHA256='0' * 64)
+        holds(name + ': another sum', job[0] != 0 and 'read from' not in job[1] and not told, job)
+        again.run(shell)
+        holds(name + ': once more in the same folder', again.run(shell)[0] == 0)
+    hostile(room, address, shells.values())
+
+
+def ended(room, address, branch, name, shell, **more):
+    """What a job over a branch ends with, what it adds to the pull request, where its results are, and the job itself."""
+    job = Job(room, address, branch)
+    got = job.run(shell, **more, **({'GITHUB_STEP_SUMMARY': ''} if name == 'GitLab' else {}))
+    path = os.path.join(job.work, 'summary.md')
+    told = job.told() if name == 'GitHub' else bytes_of(path).decode() if os.path.exists(path) else None
+    if name == 'GitHub':
+        return got, told, [places_in(os.path.join(job.folder, 'results', of + '.sarif')) for of in ('lint', 'diff')], job
+    path = os.path.join(job.work, 'quality.json')
+    listed = json.loads(bytes_of(path)) if os.path.exists(path) else []
+    return got, told, [(it['check_name'], it['location']['path'], it['location']['lines']['begin']) for it in listed], job
+
+
+def shown_by(name, of_lint, of_diff):
+    """Where a job has results: GitLab's shows those of diff alone."""
+    return [of_lint, of_diff] if name == 'GitHub' else of_diff
+
+
+def exported(room):
+    """Both jobs with an export of the example cluster beside the manifests, of which the change replaces one and adds others."""
+    if not has_kubectl(room):
         return
-    for tool in ('jq', 'mkdir'):
-        if not os.path.exists(room.at('job-tools', tool)):
-            os.symlink(shutil.which(tool), room.at('job-tools', tool))
-    folder = shutil.copytree(os.path.join(TOP, 'examples/manifests/main'), room.at('scanned') + '/rbac') + '/..'
-    run(['bash', '-c', next(command for command, _ in steps(text_of('docs', 'RECIPES.md')) if command.startswith('cat > quality.sh '))], folder)
-    less = text_of('examples/manifests/main/support.yaml').partition('---\n')[0]
-    address = with_branches(os.path.normpath(folder), {'more': {'rbac/deployer.yaml': text_of('examples/manifests/change/deployer.yaml')},
-                                                       'less': {'rbac/support.yaml': less}, 'view': {'rbac/view.yaml': OF_VIEW}})
-    github, gitlab = shell_parts(*jobs_below('Shown beside the change'))
-    for branch, shown in SHOWN.items():
-        job = Job(room, address, branch)
-        got = job.run(github)
-        found = tuple(places_in(os.path.join(job.folder, 'results', name)) for name in ('lint.sarif', 'diff.sarif'))
-        holds('GitHub, code scanning: ' + branch, got[0] == 0 and found == shown, (got, found))
-        job = Job(room, address, branch)
-        got = job.run(gitlab)
-        path = os.path.join(job.work, 'quality.json')
-        listed = json.loads(bytes_of(path)) if os.path.exists(path) else []
-        holds('GitLab, code quality: ' + branch, got[0] == 0 and [(it['check_name'], it['location']['path'], it['location']['lines']['begin'])
-                                                                  for it in listed] == shown[1], (got, listed))
-    hostile(room, address, 'code scanning', (github, gitlab), ('quality.json', 'results', 'diff.sarif', 'lint.sarif', 'quality'), status=0)
+    folder = room.at('exported')
+    os.makedirs(folder + '/prod')
+    os.makedirs(folder + '/rbac')
+    for path in glob.glob(os.path.join(TOP, 'examples/cluster/*.json')):
+        shutil.copy(path, folder + '/prod')
+    [role] = [it for it in json.loads(text_of('examples/cluster/cluster.json'))['items']
+              if (it['kind'], it['metadata']['name']) == ('ClusterRole', 'deployer')]
+    write(json.dumps(role), folder, 'rbac/roles.json')
+    run(['bash', '-c', jobs_text()[1]], folder)
+    address = with_branches(folder, {'same': {'README': 'roles'}, 'more': {
+        'rbac/roles.json': text_of('examples/cluster/change/roles.json'), 'review.sh': 'exit 0', 'prod/cluster.json': '{}'}})
+    for name, shell in zip(('GitHub', 'GitLab'), shell_parts(has_results(room), ' --export "$room/main/prod"')):
+        for branch, status, wanted in (('more', 1, report([*OF_CI, INDEXER], NAMELESS)), ('same', 0, report([], []))):
+            job, told, _, _ = ended(room, address, branch, name, shell)
+            holds('%s, with an export: %s' % (name, branch), (job[0], told) == (status, wanted), (job, told))
 
 
 def all_of_it():
@@ -711,7 +695,7 @@ def all_of_it():
     with tempfile.TemporaryDirectory() as path:
         room = Room(path)
         packed(room)
-        parts = entries, proved, refusals, instant, installed, as_told, containerfile, krew, jobs, manifests, scanning
+        parts = entries, proved, refusals, instant, installed, as_told, containerfile, krew, jobs, exported
         for part in parts if all(results) else ():
             part(room)
 
