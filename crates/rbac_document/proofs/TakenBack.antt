@@ -11,7 +11,7 @@ use Rattle.rbac_lists.specs.declared.given_lists.Account.{Account}
 use Rattle.rbac_lists.specs.Derived.{principals_of, namespaces_of, verbs_of, resources_of, names_of, urls_of}
 use Rattle.rbac_lists.specs.Meant.{given_or, lists_meant}
 use Rattle.rbac_model.specs.Policies.{Held}
-use Rattle.rbac_manifest.specs.Fields.{field}
+use Rattle.json_fields.specs.Fields.{field}
 use Rattle.rbac_manifest.specs.Kinds.{kind_at, version_read, needs_version, version_at, kind_named, kind_of}
 use Rattle.rbac_manifest.specs.Document.{not_an_object, bad_version, bad_header, fault}
 use Rattle.rbac_manifest.specs.UniverseDocument.{is_bad_universe}

@@ -13,8 +13,8 @@ use Rattle.rbac_terms.specs.Principals.{Who, AsUser, AsMember, who_name}
 use Rattle.rbac_universe.specs.declared.lists.ListedResource.{ListedResource}
 use Rattle.rbac_universe.specs.declared.lists.UniverseLists.{UniverseLists}
 use Rattle.rbac_lists.specs.declared.given_lists.GivenLists.{GivenLists}
-use Rattle.rbac_manifest.specs.Fields.{elements, all_texts, is_text, text_in, field, as_list, list_field, texts_field, text_at, flag_at}
-use Rattle.rbac_manifest.specs.Lists.{all_at}
+use Rattle.json_fields.specs.Fields.{elements, all_texts, is_text, text_in, field, as_list, list_field, texts_field, text_at, flag_at}
+use Rattle.json_fields.specs.Lists.{all_at}
 use Rattle.rbac_manifest.specs.UniverseDocument.{user_at, member_at, principal_at, resource_at, given_lists_at}
 use Rattle.rbac_document.proofs.Spelled.{json_items}
 use Rattle.rbac_document.proofs.Shapes.{list_json, principal_json, resource_json, document_json}

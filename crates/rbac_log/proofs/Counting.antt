@@ -5,7 +5,7 @@ use Rattle.std.specs.Str.{bytes_eq}
 use Rattle.serde_json.specs.Data.{Data}
 use Rattle.json_fields.specs.Fields.{text_at}
 use Rattle.rbac_terms.specs.Text.{Text}
-use Rattle.rbac_log.specs.Event.{counts_at, decision_at, told, told_if_counted}
+use Rattle.rbac_log.specs.Event.{code_at, counts_at, decision_at, told, told_if_counted}
 use Rattle.rbac_log.specs.Line.{told_by_item, told_by_items}
 use Rattle.rbac_log.specs.Outcome.{Outcome, and_then, after}
 use Rattle.rbac_log.specs.User.{full_text}
@@ -23,6 +23,15 @@ neither false said = refl
 pub forbidden : (d : Data) (stage : Text) → full_text (codes "stage") d ≡ Some stage → decision_at d ≡ Some (codes "forbid") → told d ≡ Ok []
 unfolding told counts_at
 forbidden d stage e f = rw (e, f) (neither (not (bytes_eq stage (codes "RequestReceived"))) (told_if_counted d))
+
+none_of_three : (b c : Bool) (said : Outcome (List LoggedRequest)) → cond (b && (c && false)) said (Ok []) ≡ Ok []
+none_of_three true true said = refl
+none_of_three true false said = refl
+none_of_three false c said = refl
+
+pub unauthorized : (d : Data) (stage decision : Text) → full_text (codes "stage") d ≡ Some stage → decision_at d ≡ Some decision → code_at d ≡ Some 401 → told d ≡ Ok []
+unfolding told counts_at
+unauthorized d stage decision e f g = rw (e, f, g) (none_of_three (not (bytes_eq stage (codes "RequestReceived"))) (not (bytes_eq decision (codes "forbid"))) (told_if_counted d))
 
 joined : (o p q : Outcome (List LoggedRequest)) (rs more : List LoggedRequest) → and_then o (λ xs. after xs p) ≡ Ok rs → ((ys : List LoggedRequest) → p ≡ Ok ys → q ≡ Ok (ys ++ more)) → and_then o (λ xs. after xs q) ≡ Ok (rs ++ more)
 joined (Err e) p q rs more h g = cc

@@ -1,9 +1,10 @@
 -- The requests that an event tells of (Auditing, audit.k8s.io/v1 Event).
-use Rattle.std.specs.Prelude.{◌&&◌, Bool, not, List, [], ◌++◌, Option, Some, None}
-use Rattle.std.specs.Prelude.{codes, option_map, Ok, if◌then◌else◌}
+use Rattle.std.specs.Prelude.{ℕ, ◌==◌, ◌&&◌, Bool, false, not, List, [], ◌++◌, Option, Some, None}
+use Rattle.std.specs.Prelude.{codes, option_map, option_and_then, Ok, if◌then◌else◌}
 use Rattle.std.specs.Option.{option_to_list}
 use Rattle.std.specs.Str.{bytes_eq}
 use Rattle.serde_json.specs.Data.{Data}
+use Rattle.serde_json.specs.Find.{get, as_number, as_u64}
 use Rattle.json_fields.specs.Fields.{field, text_at, is_object}
 use Rattle.rbac_terms.specs.Text.{Text}
 use Rattle.rbac_terms.specs.Principals.{Who}
@@ -27,17 +28,27 @@ decision_in (Some d) =
 unfoldable pub decision_at : Data → Option Text
 decision_at d = decision_in (field (codes "annotations") d)
 
--- an event doesn't count if its request was only received, since a later event tells of it again,
--- or if the server has forbidden it
-abbrev pub counts : Text → Text → Bool
-counts stage decision =
-    not (bytes_eq stage (codes "RequestReceived")) && not (bytes_eq decision (codes "forbid"))
+-- the code of the server's answer, if the event tells it
+unfoldable pub code_at : Data → Option ℕ
+code_at d = option_and_then as_u64 (option_and_then as_number
+    (option_and_then (get (codes "code")) (field (codes "responseStatus") d)))
+
+-- the server refused to say anything to whoever it doesn't know
+abbrev pub is_unauthorized : Option ℕ → Bool
+is_unauthorized None = false
+is_unauthorized (Some code) = code == 401
+
+-- an event doesn't count if its request was only received, since a later event tells of it again;
+-- if the server has forbidden it; or if the server didn't know who asked
+abbrev pub counts : Text → Text → Option ℕ → Bool
+counts stage decision code = not (bytes_eq stage (codes "RequestReceived"))
+    && (not (bytes_eq decision (codes "forbid")) && not (is_unauthorized code))
 
 unfoldable pub counts_at : Data → Outcome Bool
 counts_at d =
     and_then (or_fault BadStage (full_text (codes "stage") d)) (λ stage.
     and_then (or_fault BadAnnotations (decision_at d)) (λ decision.
-    Ok (counts stage decision)))
+    Ok (counts stage decision (code_at d))))
 
 -- ---- its requests
 

@@ -2,7 +2,8 @@
 
 ghost use Rattle.std.specs.Prelude.{◌≡◌, option_map};
 ghost use Rattle.serde_json.specs.View.{view};
-ghost use Rattle.rbac_log.specs.Event.{decision_at, counts, counts_at, told};
+ghost use Rattle.rbac_log.specs.Event.{decision_at, code_at, counts, counts_at};
+ghost use Rattle.rbac_log.specs.Event.{told};
 ghost use Rattle.rbac_log.specs.Outcome.{Appends};
 
 use crate::counted::add_counted;
@@ -27,11 +28,20 @@ fn decision_of(event: &Value) -> Option<&str>
     }
 }
 
-// Whether an event counts that is of this stage and on which the server decided so.
-fn counts(stage: &str, decision: &str) -> bool
-    ensures { result ≡ counts stage.now decision.now }
+// The code of the server's answer, if the event tells it.
+#[tactic(auto, unfolding(crate::specs::Event::code_at))]
+fn code_of(event: &Value) -> Option<u64>
+    ensures { result ≡ code_at (view event.now) }
 {
-    stage != "RequestReceived" && decision != "forbid"
+    field(event, "responseStatus")?.get("code")?.as_u64()
+}
+
+// Whether an event counts that is of this stage, and on which the server decided and answered so.
+// A server logs without a user whoever it doesn't know (401).
+fn counts(stage: &str, decision: &str, code: Option<u64>) -> bool
+    ensures { result ≡ counts stage.now decision.now code }
+{
+    stage != "RequestReceived" && decision != "forbid" && code != Some(401)
 }
 
 // Whether an event counts.
@@ -43,7 +53,7 @@ fn counts_of(event: &Value) -> Result<bool, LineFault>
         return Err(LineFault::BadStage);
     };
     match decision_of(event) {
-        Some(decision) => Ok(counts(stage, decision)),
+        Some(decision) => Ok(counts(stage, decision, code_of(event))),
         None => Err(LineFault::BadAnnotations),
     }
 }

@@ -6,20 +6,23 @@ ghost use Rattle.json_fields.specs.Fields.{text_at};
 ghost use Rattle.rbac_terms.specs.Principals.{Who, IsAccountOf, IsPart, account_user};
 ghost use Rattle.rbac_terms.specs.Text.{Text};
 ghost use Rattle.rbac_log.specs.Acting.{acting_as, impersonation};
-ghost use Rattle.rbac_log.specs.Event.{decision_at, told};
+ghost use Rattle.rbac_log.specs.Event.{code_at, decision_at, told};
 ghost use Rattle.rbac_log.specs.Line.{told_by_items};
 ghost use Rattle.rbac_log.specs.User.{full_text};
 ghost use Rattle.rbac_log.specs.declared.fault.LineFault.{LineFault};
 ghost use Rattle.rbac_log.specs.declared.logged.LoggedRequest.{LoggedRequest};
 
 /// An event tells of nothing if its request was only received, since a later event tells of it
-/// again, or if the server has forbidden it (own).
+/// again; if the server has forbidden it; or if the server didn't know who asked (own).
 pub fn what_was_not_allowed_tells_nothing()
     ensures received { (d : Data) (decision : Text)
         → text_at (codes "stage") d ≡ Some (codes "RequestReceived")
         → decision_at d ≡ Some decision → told d ≡ Ok [] }
     ensures forbidden { (d : Data) (stage : Text) → full_text (codes "stage") d ≡ Some stage
         → decision_at d ≡ Some (codes "forbid") → told d ≡ Ok [] }
+    ensures unauthorized { (d : Data) (stage decision : Text)
+        → full_text (codes "stage") d ≡ Some stage → decision_at d ≡ Some decision
+        → code_at d ≡ Some 401 → told d ≡ Ok [] }
 {}
 
 /// The events of a list tell what each of them tells, in order, unless one has a fault; then the

@@ -136,7 +136,8 @@ fn is_empty(line: &str) -> bool
 /// The requests that one line of an audit log tells of, in the order in which the server was asked
 /// (Auditing; impersonation: Authenticating, "User impersonation"). The line is an `Event` or an
 /// `EventList` of `audit.k8s.io/v1`, as JSON; an empty line, or one of blanks alone, has no requests
-/// (own). An event that was only received, or that the server has forbidden, has none either.
+/// (own). An event that was only received, that the server has forbidden, or that is of somebody
+/// whom it didn't know (401) has none either.
 ///
 /// # Errors
 ///

@@ -51,6 +51,16 @@ const TOLD: &[Row<'static>] = &[
         r#"{"kind":"Event","apiVersion":"audit.k8s.io/v1","level":"Metadata","auditID":"66591ce8-f0a4-4140-bc83-094c26d1ab4e","stage":"ResponseComplete","requestURI":"/metrics","verb":"get","user":{"username":"admin","uid":"admin","groups":["system:masters","system:authenticated"]},"impersonatedUser":{"username":"system:serviceaccount:shop:ci","groups":["system:serviceaccounts","system:serviceaccounts:shop","system:authenticated"]},"sourceIPs":["127.0.0.1"],"userAgent":"kubectl/v1.32.4 (linux/amd64) kubernetes/4cb5f07","responseStatus":{"metadata":{},"status":"Failure","reason":"Forbidden","code":403},"requestReceivedTimestamp":"2026-11-30T14:02:09.836765Z","stageTimestamp":"2026-11-30T14:02:09.837467Z","annotations":{"authorization.k8s.io/decision":"forbid","authorization.k8s.io/reason":""}}"#,
         &[],
     ),
+    (
+        "whoever the server doesn't know has no user, and is told nothing",
+        r#"{"kind":"Event","apiVersion":"audit.k8s.io/v1","stage":"ResponseStarted","requestURI":"/api/v1/pods","verb":"list","user":{},"objectRef":{"resource":"pods","apiVersion":"v1"},"responseStatus":{"metadata":{},"status":"Failure","message":"Unauthorized","reason":"Unauthorized","code":401}}"#,
+        &[],
+    ),
+    (
+        "another code tells of a request",
+        r#"{"kind":"Event","apiVersion":"audit.k8s.io/v1","stage":"ResponseComplete","verb":"get","user":{"username":"kim"},"requestURI":"/version","responseStatus":{"code":404}}"#,
+        &["kim - - get /version"],
+    ),
     ("an empty line", "", &[]),
     ("blanks alone", " \t\r\n", &[]),
     (

@@ -4,7 +4,7 @@ use Rattle.std.specs.Str.{bytes_eq}
 use Rattle.serde_json.specs.Data.{array, object, Items, Members}
 use Rattle.serde_json.proofs.Views.{get_member-put, get_member-put_other}
 use Rattle.json_list.specs.List.{items_name, with_items}
-use Rattle.rbac_manifest.specs.Fields.{elements, field, present, as_list, list_field, list_or_empty, all_texts, texts_field, text_at, text_or_empty}
+use Rattle.json_fields.specs.Fields.{elements, field, present, as_list, list_field, list_or_empty, all_texts, texts_field, text_at, text_or_empty}
 use Rattle.rbac_manifest.specs.Kinds.{kind_at, version_at, kind_of}
 use Rattle.rbac_manifest.specs.Metadata.{metadata_from, metadata_at}
 use Rattle.rbac_manifest.specs.Role.{rules_in}

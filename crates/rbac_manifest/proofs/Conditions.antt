@@ -6,8 +6,9 @@ use Rattle.std.specs.Str.{bytes_eq}
 use Rattle.serde_json.specs.Data.{Data}
 use Rattle.serde_json.specs.Find.{as_bool, as_str}
 use Rattle.rbac_terms.specs.Text.{Text}
-use Rattle.rbac_manifest.specs.Fields.{◌>>=◌, field, list_field, all_texts, texts_field, text_at, name_at, flag_or, flag_at, is_text, is_object, is_empty, non_empty, missing_or, given_and, text, texts, is_no_text, is_no_texts, is_no_flag, any_of}
-use Rattle.rbac_manifest.specs.Lists.{bad_place, cons_if, all_at, is_bad_list}
+use Rattle.json_fields.specs.Fields.{◌>>=◌, field, list_field, all_texts, texts_field, text_at, name_at, flag_or, flag_at, is_text, is_object, is_empty, non_empty, missing_or, given_and, text, texts, is_no_text, is_no_texts, is_no_flag, any_of}
+use Rattle.json_fields.specs.Lists.{bad_place, cons_if, all_at}
+use Rattle.rbac_manifest.specs.Lists.{is_bad_list}
 use Rattle.rbac_manifest.specs.Metadata.{is_bad_metadata, metadata_in, metadata_from, metadata_at}
 use Rattle.rbac_manifest.specs.Rule.{rule_in, is_bad_rule, rule_at}
 use Rattle.rbac_manifest.specs.Binding.{is_rbac_group, role_named, role_ref_from, role_ref_at, is_bad_role_ref, subject_named, subject_from, subject_at, is_bad_subject}

@@ -8,7 +8,7 @@ use Rattle.serde_json.specs.Data.{Data, array, object, Items, no_items, item, Me
 use Rattle.serde_json.specs.Read.{read}
 use Rattle.json_list.specs.List.{items_name, with_items}
 use Rattle.json_list.specs.OnePass.{items_and_rest, object_from, IsReadUpTo, AreTheOthers}
-use Rattle.rbac_manifest.specs.Fields.{elements}
+use Rattle.json_fields.specs.Fields.{elements}
 use Rattle.rbac_manifest.specs.Kinds.{kind_of}
 use Rattle.rbac_manifest.specs.Document.{fault, stands, first_of, bad_header, bad_body, content_in}
 use Rattle.rbac_manifest.specs.DocumentList.{IsListOf, IsReadAs}

@@ -4,7 +4,7 @@ use Rattle.std.proofs.lemmas.Bool.{cases_Bool}
 use Rattle.std.proofs.lemmas.Bool.Decides.{nat_tests}
 use Rattle.std.specs.List.{onto_first, list_any}
 use Rattle.rbac_terms.specs.Text.{Text, slash, IsCutAtFirst}
-use Rattle.rbac_manifest.specs.Fields.{is_empty}
+use Rattle.json_fields.specs.Fields.{is_empty}
 use Rattle.rbac_manifest.specs.ApiList.{parts, group_by, group_of}
 
 -- a text that isn't empty and has no slash

@@ -1,6 +1,5 @@
 pub mod Beside
 pub mod Chains
-pub mod Elements
 pub mod Conditions
 pub mod ContentsLemmas
 pub mod GroupVersions
@@ -10,7 +9,6 @@ pub mod Json
 pub mod Members
 pub mod OneLoad
 pub mod Outcomes
-pub mod Texts
 pub mod Replacing
 pub mod Unnamed
 pub mod Unread

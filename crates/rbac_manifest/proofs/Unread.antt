@@ -4,7 +4,7 @@ use Rattle.serde_json.specs.Data.{Data, null, boolean, number, string, array, ob
 use Rattle.serde_json.specs.Find.{get}
 use Rattle.json_list.specs.Lean.{lean}
 use Rattle.json_list.proofs.Lean.{member_kept, whole}
-use Rattle.rbac_manifest.specs.Fields.{field, present, is_object, list_field, list_or_empty, all_texts, texts_field, text_at, text_or_empty, name_at, non_empty, missing_or}
+use Rattle.json_fields.specs.Fields.{field, present, is_object, list_field, list_or_empty, all_texts, texts_field, text_at, text_or_empty, name_at, non_empty, missing_or}
 use Rattle.rbac_manifest.specs.Kinds.{kind_at, version_at, kind_of}
 use Rattle.rbac_manifest.specs.Part.{read_under, read_of}
 use Rattle.rbac_manifest.specs.Metadata.{is_bad_metadata, metadata_from, metadata_at}

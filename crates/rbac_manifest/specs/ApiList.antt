@@ -3,9 +3,10 @@ use Rattle.std.specs.Prelude.{◌==◌, ◌||◌, Bool, true, false, not, List, 
 use Rattle.std.specs.Prelude.{Option, Some, None, if◌then◌else◌}
 use Rattle.std.specs.List.{list_any, slice_split}
 use Rattle.serde_json.specs.Data.{Data}
-use Rattle.rbac_manifest.specs.Fields.{◌>>=◌, list_field, texts_field, text_at, name_at, flag_at}
-use Rattle.rbac_manifest.specs.Fields.{is_empty, text, is_no_text, is_no_texts, is_no_flag, any_of}
-use Rattle.rbac_manifest.specs.Lists.{all_at, is_bad_list}
+use Rattle.json_fields.specs.Fields.{◌>>=◌, list_field, texts_field, text_at, name_at, flag_at}
+use Rattle.json_fields.specs.Fields.{is_empty, text, is_no_text, is_no_texts, is_no_flag, any_of}
+use Rattle.json_fields.specs.Lists.{all_at}
+use Rattle.rbac_manifest.specs.Lists.{is_bad_list}
 use Rattle.rbac_terms.specs.Text.{Text, slash}
 use Rattle.rbac_terms.specs.Targets.{is_path}
 use Rattle.rbac_catalogue.specs.declared.entry.Entry.{Entry}

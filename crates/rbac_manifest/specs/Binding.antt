@@ -4,8 +4,8 @@ use Rattle.std.specs.Prelude.{ℕ, ◌||◌, ◌&&◌, Bool, not, List, [], ◌�
 use Rattle.std.specs.Prelude.{option_and_then, if◌then◌else◌}
 use Rattle.std.specs.Str.{bytes_eq}
 use Rattle.serde_json.specs.Data.{Data}
-use Rattle.rbac_manifest.specs.Fields.{◌>>=◌, field, list_field, text_at, name_at, is_object}
-use Rattle.rbac_manifest.specs.Fields.{is_empty, non_empty, text, is_no_text, any_of}
+use Rattle.json_fields.specs.Fields.{◌>>=◌, field, list_field, text_at, name_at, is_object}
+use Rattle.json_fields.specs.Fields.{is_empty, non_empty, text, is_no_text, any_of}
 use Rattle.rbac_manifest.specs.Lists.{items_given}
 use Rattle.rbac_terms.specs.declared.granting.RoleRef.{RoleRef}
 use Rattle.rbac_terms.specs.declared.granting.RoleRef.TheVariants.{Role, ClusterRole}

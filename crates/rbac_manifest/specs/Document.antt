@@ -11,8 +11,8 @@ use Rattle.rbac_terms.specs.declared.granting.ClusterRole.{ClusterRole}
 use Rattle.rbac_terms.specs.declared.granting.Binding.{Binding}
 use Rattle.rbac_terms.specs.declared.granting.Subject.{Subject}
 use Rattle.rbac_lists.specs.declared.given_lists.Account.{Account}
-use Rattle.rbac_manifest.specs.Fields.{field, list_field, is_object, is_empty, missing_or}
-use Rattle.rbac_manifest.specs.Fields.{given_and}
+use Rattle.json_fields.specs.Fields.{field, list_field, is_object, is_empty, missing_or}
+use Rattle.json_fields.specs.Fields.{given_and}
 use Rattle.rbac_manifest.specs.Lists.{first_bad}
 use Rattle.rbac_manifest.specs.Kinds.{kind_at, version_at, kind_of}
 use Rattle.rbac_manifest.specs.Role.{rules_in}

@@ -4,7 +4,7 @@ use Rattle.std.specs.declared.alloc.Global.{Global}
 use Rattle.serde_json.specs.Data.{Data, Items, Members}
 use Rattle.serde_json.specs.Read.{read}
 use Rattle.json_list.specs.List.{with_items}
-use Rattle.rbac_manifest.specs.Fields.{elements}
+use Rattle.json_fields.specs.Fields.{elements}
 use Rattle.rbac_manifest.specs.Kinds.{kind_of}
 use Rattle.rbac_manifest.specs.Document.{bad_header}
 use Rattle.rbac_manifest.specs.Load.{first_refusal, contents_of_items}

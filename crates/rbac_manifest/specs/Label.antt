@@ -9,10 +9,11 @@ use Rattle.serde_json.specs.Data.{Data, Members, no_members, member}
 use Rattle.serde_json.specs.Find.{as_str, as_object}
 use Rattle.serde_json.specs.View.{view}
 use Rattle.serde_json.specs.declared.value.Value.{Value}
-use Rattle.rbac_manifest.specs.Fields.{◌>>=◌, field, list_field, texts_field, text_at, is_object}
-use Rattle.rbac_manifest.specs.Fields.{is_empty, non_empty, text, texts, is_no_text, is_no_texts}
-use Rattle.rbac_manifest.specs.Fields.{any_of}
-use Rattle.rbac_manifest.specs.Lists.{all_at, cons_if, is_bad_list}
+use Rattle.json_fields.specs.Fields.{◌>>=◌, field, list_field, texts_field, text_at, is_object}
+use Rattle.json_fields.specs.Fields.{is_empty, non_empty, text, texts, is_no_text, is_no_texts}
+use Rattle.json_fields.specs.Fields.{any_of}
+use Rattle.json_fields.specs.Lists.{all_at, cons_if}
+use Rattle.rbac_manifest.specs.Lists.{is_bad_list}
 use Rattle.rbac_terms.specs.Text.{Text}
 use Rattle.rbac_terms.specs.declared.selecting.SelectOp.{SelectOp}
 use Rattle.rbac_terms.specs.declared.selecting.SelectOp.TheVariants.{OneOf, NoneOf, Present, Absent}

@@ -3,7 +3,6 @@ pub mod Binding
 pub mod Changed
 pub mod Document
 pub mod FaultTexts
-pub mod Fields
 pub mod Contents
 pub mod DocumentList
 pub mod Kinds

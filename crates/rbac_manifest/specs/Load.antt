@@ -8,7 +8,7 @@ use Rattle.json_list.specs.declared.fault.ReadFault.{ReadFault}
 use Rattle.json_list.specs.declared.fault.ReadFault.TheVariants as unread
 use Rattle.serde_json.specs.Data.{Data}
 use Rattle.serde_json.specs.Read.{read}
-use Rattle.rbac_manifest.specs.Fields.{list_field}
+use Rattle.json_fields.specs.Fields.{list_field}
 use Rattle.rbac_manifest.specs.Kinds.{kind_of}
 use Rattle.rbac_manifest.specs.Document.{fault, stands, content_in}
 use Rattle.rbac_manifest.specs.Contents.{objects_in, namespaces_in, accounts_in, catalogue_in}

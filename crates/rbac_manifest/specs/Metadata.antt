@@ -2,7 +2,7 @@
 use Rattle.std.specs.Prelude.{◌||◌, Bool, not, [], codes, Option, Some, None, option_and_then}
 use Rattle.std.specs.Prelude.{unwrap_or, is_none, if◌then◌else◌}
 use Rattle.serde_json.specs.Data.{Data}
-use Rattle.rbac_manifest.specs.Fields.{field, text_at, name_at, is_object}
+use Rattle.json_fields.specs.Fields.{field, text_at, name_at, is_object}
 use Rattle.rbac_manifest.specs.Label.{labels_at}
 use Rattle.rbac_manifest.specs.declared.metadata.Metadata.{Metadata}
 

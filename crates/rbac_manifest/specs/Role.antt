@@ -1,7 +1,7 @@
 -- The rules of a role.
 use Rattle.std.specs.Prelude.{List, Bool, codes}
 use Rattle.serde_json.specs.Data.{Data}
-use Rattle.rbac_manifest.specs.Fields.{list_field}
+use Rattle.json_fields.specs.Fields.{list_field}
 use Rattle.rbac_manifest.specs.Lists.{items_given}
 use Rattle.rbac_manifest.specs.Rule.{rule_at}
 use Rattle.rbac_terms.specs.declared.matching.Rule.{Rule}

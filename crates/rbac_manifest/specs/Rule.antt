@@ -2,7 +2,7 @@
 -- ClusterRole).
 use Rattle.std.specs.Prelude.{◌||◌, ◌&&◌, Bool, not, codes, Option, Some, None, if◌then◌else◌}
 use Rattle.serde_json.specs.Data.{Data}
-use Rattle.rbac_manifest.specs.Fields.{texts, is_no_texts, is_object, is_empty}
+use Rattle.json_fields.specs.Fields.{texts, is_no_texts, is_object, is_empty}
 use Rattle.rbac_terms.specs.declared.matching.Rule.{Rule}
 
 -- the rule that an object's fields give

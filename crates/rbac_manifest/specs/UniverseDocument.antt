@@ -3,12 +3,13 @@ use Rattle.std.specs.Prelude.{◌&&◌, Bool, true, not, List, [], ◌∷◌, co
 use Rattle.std.specs.Prelude.{option_map, is_none, is_some, if◌then◌else◌}
 use Rattle.serde_json.specs.Data.{Data}
 use Rattle.serde_json.specs.Find.{as_str}
-use Rattle.rbac_manifest.specs.Fields.{◌>>=◌, field, list_field, texts_field, text_at, flag_at}
-use Rattle.rbac_manifest.specs.Fields.{is_text, text_in, is_empty, non_empty, given_and, is_no_text}
-use Rattle.rbac_manifest.specs.Fields.{is_no_texts, is_no_flag, any_of}
-use Rattle.rbac_manifest.specs.Lists.{all_at, is_bad_list}
-use Rattle.rbac_manifest.specs.declared.fault.Trouble.{Trouble}
-use Rattle.rbac_manifest.specs.declared.fault.Trouble.TheVariants.{Shape, Memory}
+use Rattle.json_fields.specs.Fields.{◌>>=◌, field, list_field, texts_field, text_at, flag_at}
+use Rattle.json_fields.specs.Fields.{is_text, text_in, is_empty, non_empty, given_and, is_no_text}
+use Rattle.json_fields.specs.Fields.{is_no_texts, is_no_flag, any_of}
+use Rattle.json_fields.specs.Lists.{all_at}
+use Rattle.rbac_manifest.specs.Lists.{is_bad_list}
+use Rattle.json_fields.specs.declared.trouble.Trouble.{Trouble}
+use Rattle.json_fields.specs.declared.trouble.Trouble.TheVariants.{Shape, Memory}
 use Rattle.rbac_terms.specs.Text.{Text}
 use Rattle.rbac_terms.specs.Principals.{Who, AsUser, AsMember}
 use Rattle.rbac_terms.specs.declared.fault.ModelFault.{ModelFault}

@@ -3,16 +3,17 @@
 ghost use Rattle.std.specs.Prelude.{◌≡◌, ◌≢◌, ◌↔◌, [], Contains, IsTrue, map, option_map};
 ghost use Rattle.serde_json.specs.View.{view};
 ghost use Rattle.rbac_terms.specs.Text.{slash};
-ghost use Rattle.rbac_manifest.specs.Reads.{Reads, Gives};
-ghost use Rattle.rbac_manifest.specs.Lists.{all_at};
+ghost use Rattle.json_fields.specs.Reads.{Reads};
+ghost use Rattle.rbac_manifest.specs.Reads.{Gives};
+ghost use Rattle.json_fields.specs.Lists.{all_at};
 ghost use Rattle.rbac_manifest.specs.ApiList.{group_of, resource_name_at, entry_at, entries_at};
 ghost use Rattle.rbac_manifest.specs.Document.{bad_catalogue};
 
-use crate::fault::{Cause, Trouble, read_or};
-use crate::fields::{
-    flag_field, list_field, name_of, text_field, word_field, word_of, words_field,
+use crate::fault::{Cause, read_or};
+use json_fields::{
+    Trouble, all_read, flag_field, list_field, name_of, text_field, word_field, word_of,
+    words_field,
 };
-use crate::listed::all_read;
 use rbac_catalogue::{Entries, Entry};
 use rbac_terms::{Word, cut_at_first, is_path};
 use serde_json::Value;

@@ -2,14 +2,15 @@
 
 ghost use Rattle.std.specs.Prelude.{◌≡◌};
 ghost use Rattle.serde_json.specs.View.{view};
-ghost use Rattle.rbac_manifest.specs.Reads.{Reads, Gives};
+ghost use Rattle.json_fields.specs.Reads.{Reads};
+ghost use Rattle.rbac_manifest.specs.Reads.{Gives};
 ghost use Rattle.rbac_manifest.specs.Document.{bad_role_ref};
 ghost use Rattle.rbac_manifest.specs.Binding.{is_rbac_group, role_named, role_ref_from};
 ghost use Rattle.rbac_manifest.specs.Binding.{role_ref_at};
 
-use crate::fault::{Cause, Trouble, read_or};
-use crate::fields::{field, name_of, text_field, word_of};
+use crate::fault::{Cause, read_or};
 use crate::kind::RBAC_GROUP;
+use json_fields::{Trouble, field, name_of, text_field, word_of};
 use rbac_terms::{CLUSTER_ROLE, ROLE, RoleRef};
 use serde_json::Value;
 use std::alloc::Global;

@@ -11,7 +11,7 @@ ghost use Rattle.json_list.specs.List.{IsList};
 ghost use Rattle.json_list.specs.OnePass.{items_and_rest, OthersFollow, IsReadUpTo};
 ghost use Rattle.json_list.specs.declared.fault.ReadFault.TheVariants.{Refused};
 ghost use Rattle.rbac_manifest.specs.DocumentList.{IsListOf, IsReadAs};
-ghost use Rattle.rbac_manifest.specs.Fields.{elements};
+ghost use Rattle.json_fields.specs.Fields.{elements};
 ghost use Rattle.rbac_manifest.specs.Load.{refusal_of, first_refusal, contents_of_items};
 ghost use Rattle.rbac_manifest.specs.Load.{contents_of_value};
 ghost use Rattle.rbac_manifest.specs.Reads.{Yields};

@@ -2,82 +2,14 @@
 
 ghost use Rattle.std.specs.Prelude.{◌≡◌, ◌+◌};
 ghost use Rattle.std.specs.Result.{result_map_both};
-ghost use Rattle.rbac_manifest.specs.declared.fault.Trouble.TheVariants.{Memory};
-ghost use Rattle.rbac_manifest.specs.declared.fault.ItemFault.TheVariants.{WithoutMemory};
 ghost use Rattle.rbac_manifest.specs.declared.fault.Cause.TheVariants.{NoMemory};
 ghost use Rattle.rbac_manifest.specs.Reads.{cause_of};
 
+use json_fields::Trouble;
 use json_list::ReadFault;
 use std::alloc::{AllocError, AllocFailed};
 use std::error::Error;
 use std::fmt;
-
-// Why a value wasn't read.
-#[derive(Clone, Copy, Debug, Drop)]
-pub(crate) enum Trouble {
-    // The value doesn't have the shape that the format requires.
-    Shape,
-    Memory,
-}
-
-// Why not all items of a list were read.
-#[derive(Clone, Copy, Debug, Drop)]
-pub(crate) enum ItemFault {
-    // The item at this place is the first with the wrong shape.
-    Bad(usize),
-    WithoutMemory,
-}
-
-impl<T: Drop> From<AllocFailed<T>> for ItemFault {
-    ghost from_gives = { λ _ fault. fault ≡ WithoutMemory };
-
-    fn from(_: AllocFailed<T>) -> Self {
-        ItemFault::WithoutMemory
-    }
-}
-
-impl From<AllocError> for Trouble {
-    ghost from_gives = { λ _ trouble. trouble ≡ Memory };
-
-    fn from(_: AllocError) -> Self {
-        Trouble::Memory
-    }
-}
-
-impl From<ItemFault> for Trouble {
-    ghost use Rattle.rbac_manifest.specs.Lists.{trouble_with};
-
-    ghost from_gives = { λ fault trouble. trouble ≡ trouble_with fault };
-
-    fn from(fault: ItemFault) -> Self {
-        match fault {
-            ItemFault::Bad(_) => Trouble::Shape,
-            ItemFault::WithoutMemory => Trouble::Memory,
-        }
-    }
-}
-
-impl<T: Drop> From<AllocFailed<T>> for Trouble {
-    ghost from_gives = { λ _ trouble. trouble ≡ Memory };
-
-    fn from(_: AllocFailed<T>) -> Self {
-        Trouble::Memory
-    }
-}
-
-impl Trouble {
-    ghost use Rattle.rbac_manifest.specs.Lists.{item_fault};
-
-    // This trouble as a fault of the item at a place.
-    pub(crate) fn at(self, place: usize) -> ItemFault
-        ensures { result ≡ item_fault self place }
-    {
-        match self {
-            Trouble::Shape => ItemFault::Bad(place),
-            Trouble::Memory => ItemFault::WithoutMemory,
-        }
-    }
-}
 
 // What was read, or why it is refused: the cause `refused` if its shape is wrong, otherwise out of
 // memory.

@@ -14,7 +14,7 @@ ghost use Rattle.rbac_manifest.specs.declared.fault.Cause.TheVariants.{NoMemory}
 ghost use Rattle.rbac_manifest.specs.declared.kind.Implied.{Implied};
 
 use crate::fault::Cause;
-use crate::fields::field;
+use json_fields::field;
 use rbac_terms::{
     CLUSTER_ROLE, CLUSTER_ROLE_BINDING, NAMESPACE, ROLE, ROLE_BINDING, SERVICE_ACCOUNT,
 };

@@ -1,11 +1,10 @@
 //! Labels of an object, and the labels that a selector asks for.
 
 ghost use Rattle.serde_json.specs.View.{view};
-ghost use Rattle.rbac_manifest.specs.Reads.{Reads};
+ghost use Rattle.json_fields.specs.Reads.{Reads};
 ghost use Rattle.rbac_manifest.specs.Label.{label_of, entry_labels, labels_at};
 
-use crate::fault::Trouble;
-use crate::fields::{field, word_of};
+use json_fields::{Trouble, field, word_of};
 use rbac_terms::{Labels, Word};
 use serde_json::{Map, Value};
 use std::alloc::Global;

@@ -1,13 +1,14 @@
 //! The name, namespace and labels of an object.
 
 ghost use Rattle.serde_json.specs.View.{view};
-ghost use Rattle.rbac_manifest.specs.Reads.{Reads, Gives};
+ghost use Rattle.json_fields.specs.Reads.{Reads};
+ghost use Rattle.rbac_manifest.specs.Reads.{Gives};
 ghost use Rattle.rbac_manifest.specs.Document.{bad_metadata};
 ghost use Rattle.rbac_manifest.specs.Metadata.{metadata_from, metadata_at};
 
-use crate::fault::{Cause, Trouble, read_or};
-use crate::fields::{field, name_of, object_in, word_field, word_of};
+use crate::fault::{Cause, read_or};
 use crate::label::labels_field;
+use json_fields::{Trouble, field, name_of, object_in, word_field, word_of};
 use rbac_terms::{Labels, Word};
 use serde_json::Value;
 use std::alloc::Global;

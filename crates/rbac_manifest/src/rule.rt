@@ -2,16 +2,16 @@
 
 ghost use Rattle.std.specs.Prelude.{◌≡◌, map, option_map, None, Some, if◌then◌else◌};
 ghost use Rattle.serde_json.specs.View.{view};
-ghost use Rattle.rbac_manifest.specs.Reads.{Reads, Loads};
-ghost use Rattle.rbac_manifest.specs.Lists.{bad_place, given_by};
+ghost use Rattle.json_fields.specs.Reads.{Reads};
+ghost use Rattle.rbac_manifest.specs.Reads.{Loads};
+ghost use Rattle.json_fields.specs.Lists.{bad_place, given_by};
 ghost use Rattle.rbac_manifest.specs.Role.{rules_in};
 ghost use Rattle.rbac_manifest.specs.Document.{bad_rules};
 ghost use Rattle.rbac_manifest.specs.declared.fault.Cause.TheVariants.{BadRule};
 ghost use Rattle.rbac_manifest.specs.Rule.{rule_at, rule_in, has_bad_field, is_bad_target};
 
-use crate::fault::{Cause, ItemFault, Trouble};
-use crate::fields::{list_field, object_in, words_field};
-use crate::listed::all_read;
+use crate::fault::Cause;
+use json_fields::{ItemFault, Trouble, all_read, list_field, object_in, words_field};
 use rbac_terms::{Rule, Rules};
 use serde_json::Value;
 use std::alloc::Global;

@@ -2,17 +2,19 @@
 
 ghost use Rattle.std.specs.Prelude.{◌≡◌, map};
 ghost use Rattle.serde_json.specs.View.{view};
-ghost use Rattle.rbac_manifest.specs.Reads.{Reads, Gives};
+ghost use Rattle.json_fields.specs.Reads.{Reads};
+ghost use Rattle.rbac_manifest.specs.Reads.{Gives};
 ghost use Rattle.rbac_manifest.specs.Document.{bad_selector};
-ghost use Rattle.rbac_manifest.specs.Lists.{all_at};
+ghost use Rattle.json_fields.specs.Lists.{all_at};
 ghost use Rattle.rbac_manifest.specs.Label.{operator_named, requirement_from, requirement_at};
 ghost use Rattle.rbac_manifest.specs.Label.{selector_from, selector_at, selectors_from};
 ghost use Rattle.rbac_manifest.specs.Label.{aggregation_at};
 
-use crate::fault::{Cause, Trouble, read_or};
-use crate::fields::{field, list_field, object_in, text_field, word_of, words_field};
+use crate::fault::{Cause, read_or};
 use crate::label::labels_field;
-use crate::listed::all_read;
+use json_fields::{
+    Trouble, all_read, field, list_field, object_in, text_field, word_of, words_field,
+};
 use rbac_terms::{Requirement, Requirements, SelectOp, Selector, Selectors, Words};
 use serde_json::Value;
 use std::alloc::Global;

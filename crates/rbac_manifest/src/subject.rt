@@ -2,18 +2,20 @@
 
 ghost use Rattle.std.specs.Prelude.{◌≡◌, map, option_map, IfOk};
 ghost use Rattle.serde_json.specs.View.{view};
-ghost use Rattle.rbac_manifest.specs.Fields.{non_empty};
-ghost use Rattle.rbac_manifest.specs.Reads.{Reads, Loads};
-ghost use Rattle.rbac_manifest.specs.Lists.{bad_place, given_by};
+ghost use Rattle.json_fields.specs.Fields.{non_empty};
+ghost use Rattle.json_fields.specs.Reads.{Reads};
+ghost use Rattle.rbac_manifest.specs.Reads.{Loads};
+ghost use Rattle.json_fields.specs.Lists.{bad_place, given_by};
 ghost use Rattle.rbac_manifest.specs.Binding.{subject_named, subject_from, subject_at, subjects_in};
 ghost use Rattle.rbac_manifest.specs.Document.{bad_subjects};
 ghost use Rattle.rbac_manifest.specs.declared.fault.Cause.TheVariants.{BadSubject};
 ghost use Rattle.rbac_terms.specs.declared.granting.Subject.TheVariants.{Account};
 
 use crate::binding::is_rbac_group;
-use crate::fault::{Cause, ItemFault, Trouble};
-use crate::fields::{list_field, name_of, object_in, text_field, word_of};
-use crate::listed::all_read;
+use crate::fault::Cause;
+use json_fields::{
+    ItemFault, Trouble, all_read, list_field, name_of, object_in, text_field, word_of,
+};
 use rbac_terms::{Subject, Subjects, Word};
 use serde_json::Value;
 use std::alloc::{AllocError, Global};

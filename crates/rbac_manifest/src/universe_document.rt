@@ -2,16 +2,16 @@
 
 ghost use Rattle.std.specs.Prelude.{◌≡◌, codes, option_and_then};
 ghost use Rattle.serde_json.specs.View.{view};
-ghost use Rattle.rbac_manifest.specs.Fields.{as_list, texts_field};
-ghost use Rattle.rbac_manifest.specs.Reads.{Reads};
-ghost use Rattle.rbac_manifest.specs.Lists.{all_at};
+ghost use Rattle.json_fields.specs.Fields.{as_list, texts_field};
+ghost use Rattle.json_fields.specs.Reads.{Reads};
+ghost use Rattle.json_fields.specs.Lists.{all_at};
 ghost use Rattle.rbac_manifest.specs.UniverseDocument.{trouble_of, user_at, member_at};
 ghost use Rattle.rbac_manifest.specs.UniverseDocument.{principal_at, resource_at, items_field};
 ghost use Rattle.rbac_manifest.specs.UniverseDocument.{where_given, given_lists_at};
 
-use crate::fault::Trouble;
-use crate::fields::{as_list, field, flag_field, word_field, word_of, words_field, words_in};
-use crate::listed::all_read;
+use json_fields::{
+    Trouble, all_read, as_list, field, flag_field, word_field, word_of, words_field, words_in,
+};
 use rbac_lists::GivenLists;
 use rbac_terms::{ModelFault, Principal, Words};
 use rbac_universe::{ListedResource, ListedResources, Principals};
@@ -81,7 +81,7 @@ fn principals_in(alloc: Global, list: &Value) -> Result<Principals, Trouble>
 }
 
 // The principals of a document, if it gives them.
-#[tactic(auto, unfolding(crate::specs::Fields::list_field))]
+#[tactic(auto, unfolding(json_fields::specs::Fields::list_field))]
 fn principals_given(alloc: Global, document: &Value) -> Result<Option<Principals>, Trouble>
     ensures { Reads result
         (where_given (items_field principal_at) (codes "principals") (view document.now)) }
@@ -123,7 +123,7 @@ fn resources_in(alloc: Global, list: &Value) -> Result<ListedResources, Trouble>
 }
 
 // The resources of a document, if it gives them.
-#[tactic(auto, unfolding(crate::specs::Fields::list_field))]
+#[tactic(auto, unfolding(json_fields::specs::Fields::list_field))]
 fn resources_given(alloc: Global, document: &Value) -> Result<Option<ListedResources>, Trouble>
     ensures { Reads result
         (where_given (items_field resource_at) (codes "resources") (view document.now)) }
@@ -135,7 +135,7 @@ fn resources_given(alloc: Global, document: &Value) -> Result<Option<ListedResou
 }
 
 // The texts in a field of a document, if it gives them.
-#[tactic(auto, unfolding(crate::specs::Fields::texts_field, crate::specs::Fields::list_field))]
+#[tactic(auto, unfolding(json_fields::specs::Fields::texts_field, json_fields::specs::Fields::list_field))]
 fn words_given(alloc: Global, document: &Value, name: &str) -> Result<Option<Words>, Trouble>
     ensures { Reads result (where_given texts_field name.now (view document.now)) }
 {

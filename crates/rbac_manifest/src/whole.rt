@@ -15,8 +15,8 @@ ghost use Rattle.rbac_manifest.specs.Reads.{Yields};
 use crate::content::Content;
 use crate::document::take_document;
 use crate::fault::{Cause, Refusal};
-use crate::fields::list_field;
 use crate::kind::{Implied, list_kind};
+use json_fields::list_field;
 use serde_json::Value;
 use std::alloc::Global;
 

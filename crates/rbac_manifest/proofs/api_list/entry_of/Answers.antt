@@ -1,7 +1,7 @@
 use Rattle.std.proofs.Common.{refl, rules}
 use Rattle.serde_json.specs.View.{view}
 use Rattle.rbac_manifest.specs.ApiList.{entry_at}
-use Rattle.rbac_manifest.specs.Reads.{Fails}
+use Rattle.json_fields.specs.Reads.{Fails}
 use Rattle.rbac_manifest.proofs.Chains.{fails_then}
 use Rattle.rbac_manifest.proofs.api_list.entry_of.Goals as goal
 
