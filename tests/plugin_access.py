@@ -131,7 +131,7 @@ def tables(it):
             it.expect('access %s %s' % (words, place), ['access', *place, *words], 0, out)
         it.expect('access of nobody %s' % place, ['access', *place, 'u:kim'], 0, '', NO_USER % ('kim', NO_GROUPS))
     it.lines('calls')
-    it.run('access', CI_KEY)
+    it.run('access', 'u:dana@example.com')
     calls = it.lines('calls')
     it.checked('it reads what rules reads', len(calls) == 2, calls)
     company(it)
@@ -165,7 +165,7 @@ WHERE  RESOURCE  GROUP  *    get  list  watch  create  update  patch  delete  de
 *      pods      -      -    yes  -     -      -       -       -      names   -                 names  -    -,a,a\\x2cb,b
 *      */scale   *      yes  -    -     -      -       -       -      -       -                 -      -    -
 *      pods/*    *      yes  -    -     -      -       -       -      -       -                 -      -    -
-\\x2a   \\x2d      \\x2d    -    -    -     -      -       -       -      -       -                 -      yes  -
+\\x2a   \\x2d      \\x2d   -    -    -     -      -       -       -      -       -                 -      yes  -
 
 URL  get  post
 /a   yes  yes

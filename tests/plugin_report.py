@@ -214,7 +214,7 @@ def refused(it):
     """What isn't known, before anything is read."""
     for words, said in ((['-o', 'table'], 'report has no format table: -o takes md, json or html'), (['-o'], '-o needs a value'), (['x'], 'report has no x; kubectl rbacaudit report --help lists its options'),
                         (['--color', 'always'], 'report has no --color; kubectl rbacaudit report --help lists its options'), (['-omd', '-o', 'md'], '-o is given twice'),
-                        (['--export', 'nothing'], 'there is no folder nothing')):
+                        (['--export', 'nothing'], 'there is no folder nothing: kubectl rbacaudit export makes one')):
         it.expect('refused: report %s' % words, ['report', *words], 2, '', 'kubectl-rbacaudit: %s\n' % said)
     it.checked('asks no cluster', not it.lines('calls'), 'calls')
     it.run('export', 'prod')

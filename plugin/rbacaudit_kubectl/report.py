@@ -38,6 +38,8 @@ MISSES = [(text, '') for text in (
     "Types that other controllers turn into pods don't count as a way to run pods.")]
 GAP, ALONE = 'A part of the export is missing: %s.', 'The export has the namespace %s alone.'
 OF_SYSTEM = "Findings about Kubernetes' own objects are left out: %s."
+TAKEOVERS = ('%d users and groups have everything in the whole cluster (0 steps), and %d take it over step by step. Each line has the first step of '
+             'a shortest path: whom or what WHO takes over, and by which binding.')
 STALE = 'Aggregated roles are stale: the cluster grants what is written in them, and this report has what they gather.'
 
 
@@ -65,16 +67,17 @@ def report_of(asking: Asking) -> Report:
 
     assert asking.export is not None
     about = page.about(asking.export.path('about.txt')) if asking.export.has('about.txt') else {}
-    linted, findings = lines(['lint', '--']), rows_of(lines(['lint', '--skip-system', '--']))
-    powers: dict[tuple[str, str], list[str]] = {}
+    takeovers, powers = rows_of(lines(EVERYTHING, asking.files())), dict[tuple[str, str], list[str]]()
     for step, who, where, *_ in rows_of(lines(['powers', '--'])):
         powers.setdefault((who, where), []).append(step)
+    linted, findings = lines(['lint', '--']), rows_of(lines(['lint', '--skip-system', '--']))
     findings.sort(key=lambda row: LEVELS.index(level_of(row)))
     stale, left_out = stale_in(linted), len(rows_of(linted)) - len(findings)
+    groups = sorted((key for key in named_keys(asking) or () if key.startswith('g:') and not key.startswith('g:system:')), key=bytes_of)
     misses = [*((GAP, gap) for gap in asking.export.gaps), *[(ALONE, asking.export.only)] * bool(asking.export.only), *[(STALE, '')] * bool(stale),
               *[(OF_SYSTEM, str(left_out))] * bool(left_out), *MISSES]
-    return Report(about, counts_of(asking), rows_of(lines(EVERYTHING, asking.files())), {key: powers[key] for key in sorted(powers, key=place_of_power)},
-                  findings, stale, sorted(key for key in named_keys(asking) or () if key.startswith('g:') and not key.startswith('g:system:')), misses)
+    ordered = {key: powers[key] for key in sorted(powers, key=place_of_power)}
+    return Report(about, counts_of(asking), takeovers, ordered, findings, stale, groups, misses)
 
 
 def place_of_power(key: tuple[str, str]) -> tuple[bytes, bool, bytes]:
@@ -101,13 +104,19 @@ def counts_of(asking: Asking) -> dict[str, int]:
 def json_report(report: Report) -> str:
     """One object. Its lines are objects as -o json of their commands prints them."""
     def objects(rows: list[list[str]], is_indirect: bool = False) -> list[dict[str, Any]]:
-        return [json.loads(text) for text in objects_of(Reader(is_indirect).rows_of('\t'.join(row) for row in rows))]
+        reader = Reader(is_indirect)
+        found = [json.loads(text) for text in objects_of(reader.rows_of('\t'.join(row) for row in rows))]
+        if reader.fault:
+            raise Refused(reader.fault)
+        return found
 
-    return json_of({
-        'about': report.about, 'counts': report.counts, 'takeovers': objects(report.takeovers, True),
-        'powers': [{'who': text_of(who), 'where': None if where == '*' else text_of(where), 'powers': steps} for (who, where), steps in report.powers.items()],
-        'findings': [{'level': level_of(row), **it} for row, it in zip(report.findings, objects(report.findings))],
-        'stale_aggregates': [*map(text_of, report.stale)], 'groups': [*map(text_of, report.groups)], 'misses': [text % name if name else text for text, name in report.misses]}) + '\n'
+    powers = [{'who': text_of(who), 'where': None if where == '*' else text_of(where), 'powers': steps}
+              for (who, where), steps in report.powers.items()]
+    findings = [{'level': level_of(row), **it} for row, it in zip(report.findings, objects(report.findings))]
+    misses = [text % name if name else text for text, name in report.misses]
+    return json_of({'about': report.about, 'counts': report.counts, 'takeovers': objects(report.takeovers, True), 'powers': powers,
+                    'findings': findings, 'stale_aggregates': [*map(text_of, report.stale)], 'groups': [*map(text_of, report.groups)],
+                    'misses': misses}) + '\n'
 
 
 # ---- as Markdown
@@ -136,17 +145,16 @@ def markdown(report: Report, folder: str) -> Iterator[str]:
 
     yield '# Access report'
     yield from part('What was read', '', 'WHAT VALUE', [[name, code(text)] for name, text in report.about.items()] +
-                    [[kind, str(count)] for kind, count in report.counts.items()])
-    people = [row for row in report.takeovers if row[1][:2] in ('u:', 'g:')]
-    has, number = len([row for row in people if row[0] == '0']), len(people)
-    yield from part('Who takes over the whole cluster', '%d users and groups have everything in the whole cluster (0 steps), and %d take it over step '
-                    'by step. Each line has the first step of a shortest path: whom or what WHO takes over, and by which binding.' % (has, number - has),
-                    'STEPS WHO TO WHERE STEP BINDING', [[row[0], *map(code, row[1:2]), *map(code, row[3:7])] for row in people],
+                    [[kind, str(count)] for kind, count in report.counts.items()], 'universe%s')
+    people = [row for row in report.takeovers if row[1].startswith(('u:', 'g:'))]
+    has = len([row for row in people if row[0] == '0'])
+    yield from part('Who takes over the whole cluster', TAKEOVERS % (has, len(people) - has), 'STEPS WHO TO WHERE STEP BINDING',
+                    [[row[0], code(row[1]), *map(code, row[3:7])] for row in people],
                     "who-can --indirect%s -A '*' '*.*'", 'paths%s WHO')
     yield from part('Powers by person', 'Ways to take over somebody else or to gain permissions. `*` is the whole cluster.', 'WHO WHERE POWERS',
                     [[code(who), code(where), ', '.join(steps)] for (who, where), steps in report.powers.items()], 'powers%s', 'access%s WHO')
-    yield from part('Findings', '', 'LEVEL CODE NAME OBJECT PLACE DETAIL', [[level_of(row), *row[:2], *map(code, row[2:])] for row in report.findings],
-                    'lint%s')
+    yield from part('Findings', '', 'LEVEL CODE NAME OBJECT PLACE DETAIL',
+                    [[level_of(row), *row[:2], *map(code, row[2:])] for row in report.findings], 'lint%s')
     yield from part('Stale aggregates', STALE if report.stale else '', 'ROLE', [[code(role)] for role in report.stale], 'lint%s --only L6')
     yield from part("Groups whose members aren't known", "Bindings name these groups, which aren't Kubernetes' own.", 'GROUP',
                     [[code(group)] for group in report.groups], 'rules%s g:GROUP')
