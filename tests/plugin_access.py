@@ -155,7 +155,7 @@ def mixed(it):
     both = {'verbs': ['get', 'post'], 'apiGroups': [], 'resources': [], 'nonResourceURLs': ['/b*', '/a']}
     exported(it, 'prod', role('mixed', rule('get', 'pods'), rule('get delete', 'pods', names=['b', 'a']), rule('delete GET', 'pods', names=['', 'a,b']),
                               rule('*', '*/scale pods/*', group='*'), both), bound('mixed', 'mixed', 'kim'),
-             role('urls', {**both, 'nonResourceURLs': ['/c']}, rule('use', '-', group='-'), namespace='*'), bound('urls', 'urls', 'kim', namespace='*', of='Role'))
+             role('urls', {**both, 'nonResourceURLs': ['/c']}, rule('use', '-', group='-')), bound('urls', 'urls', 'kim', namespace='*'))
     it.expect('as JSON', ['access', '--export', 'prod', 'u:kim', '-o', 'json'], 0, ''.join(line + '\n' for line in (
         '{"where":null,"group":"","resource":"pods","verbs":["get"],"by_name":{"delete":["","a","a,b","b"],"GET":["","a,b"]}}',
         '{"where":null,"group":"*","resource":"*/scale","verbs":["*"],"by_name":{}}', '{"where":null,"group":"*","resource":"pods/*","verbs":["*"],"by_name":{}}',
