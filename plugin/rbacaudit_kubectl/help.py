@@ -131,7 +131,7 @@ Show what a user or a group may do, as a table of types by verbs.
 
   yes               the verb on every object of the type
   names             only on objects whose names are in the last column
-  -                 not at all
+  -                 no rule with these words has the verb; a row or a column * may allow it
 
   -n NS             what counts in the namespace NS, with what holds in the whole cluster. Without it, WHERE
                     is the namespace of what RoleBindings grant, or * for the whole cluster
@@ -139,7 +139,7 @@ Show what a user or a group may do, as a table of types by verbs.
   -o FORMAT         table (default), wide, or json: an object for each type and each URL
 
 WHO is u:NAME for a user or g:NAME for a group. The table is made of the lines of rules, and all words stay as the roles have them: * in the place of a
-verb, type or API group is any, so what a line with * allows isn't repeated in the others. URLs come last, in a table of their own. Powers are bold
+verb, type or API group is any, and what it allows isn't repeated elsewhere. URLs come last, in a table of their own. Powers are bold
 (kubectl rbacaudit powers --help), and types that are limited to names are yellow. Standard error names cluster-scoped types that RoleBindings name,
 if the export has API resource lists. The other options mean what kubectl rbacaudit --help says. Exit status: 0 the table is written; 2 an error.
 '''
