@@ -69,7 +69,7 @@ def tools(it):
                        (['universe', '-h'], 'Universe document'), (['can-i', '--help'], '--why'),
                        (['who-can', '-Ah'], 'with kubectl rbacaudit who-can'), (['rules', '-h'], 'u:USER or g:GROUP'), (['matrix', '-h'], '--after'), (['lint', '--help'], 'dangling-role'), (['powers', '-h'], 'act as a user, a group'), (['paths', '-h'], 'with kubectl rbacaudit paths'),
                        (['diff', '--help'], 'objects that the change deletes'), (['diff', '-h'], 'folder with a kustomization'), (['read', '-h'], 'refused'),
-                       (['access', '-h'], 'URLs come last'), (['access', '--help'], 'names are in the last column'), (['report', '--help'], 'stale aggregates')):
+                       (['access', '-h'], 'a table of types by verbs'), (['access', '--help'], 'names are in the last column'), (['report', '--help'], 'stale aggregates')):
         status, out, err = got = it.run(*line)
         it.checked('help: %s' % ' '.join(line), (status, err) == (0, '') and said.lower() in out.lower(), got)
     for line, options in ((['--help'],
