@@ -7,7 +7,7 @@ from collections.abc import Iterable, Sequence
 from .escapes import escaped
 from .fields import in_key
 
-SHAPES = {'u': 'box', 'g': 'folder', '*': 'doubleoctagon'}  # and of roles
+SHAPES = {'u': 'box', 'g': 'folder', '*': 'doubleoctagon'}  # (a role is a note)
 
 
 def graph_of(who: str, rows: Iterable[Sequence[str]]) -> str:

@@ -15,7 +15,7 @@ from .answer import Asking, ask_well
 from .documents import item_of, list_in, read_document
 from .escapes import bytes_of, escaped, on_one_line
 from .export import open_export, write_about
-from .fields import STEP_NAMES, rows_of, text_of
+from .fields import rows_of, text_of
 from .options import choose_format, read_options
 from .page_command import write_page
 from .processes import Session
