@@ -3,7 +3,7 @@
 plugin_room.py has the stand-in, plugin_exports.py the exports, plugin_questions.py the questions, plugin_paths.py those of paths,
 plugin_remarks.py what is said beside answers, plugin_changes.py and plugin_manifests.py changes and manifests, plugin_advice.py what is said behind errors,
 plugin_server.py both once more with kubectl itself, plugin_terminal.py what a terminal shows, plugin_show.py formats and summaries,
-plugin_sarif.py what code hosts get, plugin_states.py what manifests alone don't know of a cluster, plugin_law.py the law of that,
+plugin_sarif.py what code hosts get, plugin_access.py one person's access and graphs of paths, plugin_report.py reports, plugin_states.py what manifests alone don't know of a cluster, plugin_law.py the law of that,
 and plugin_applied.py what kubectl would do and the files don't say.
 Here are the tools that the plugin needs, its texts, completions and man page, and make. What is
 skipped, since this machine lacks a tool, stands in the last line but one. The last line is
@@ -18,6 +18,7 @@ import subprocess
 import sys
 import tempfile
 
+import plugin_access
 import plugin_advice
 import plugin_applied
 import plugin_changes
@@ -27,6 +28,7 @@ import plugin_manifests
 import plugin_paths
 import plugin_questions
 import plugin_remarks
+import plugin_report
 import plugin_sarif
 import plugin_server
 import plugin_show
@@ -66,7 +68,8 @@ def tools(it):
     for line, said in ((['--help'], 'kubectl rbacaudit who-can'), (['-h'], '--partial'), (['export', '--help'], 'incomplete.txt'),
                        (['universe', '-h'], 'Universe document'), (['can-i', '--help'], '--why'),
                        (['who-can', '-Ah'], 'with kubectl rbacaudit who-can'), (['rules', '-h'], 'u:USER or g:GROUP'), (['matrix', '-h'], '--after'), (['lint', '--help'], 'dangling-role'), (['powers', '-h'], 'act as a user, a group'), (['paths', '-h'], 'with kubectl rbacaudit paths'),
-                       (['diff', '--help'], 'objects that the change deletes'), (['diff', '-h'], 'folder with a kustomization'), (['read', '-h'], 'refused')):
+                       (['diff', '--help'], 'objects that the change deletes'), (['diff', '-h'], 'folder with a kustomization'), (['read', '-h'], 'refused'),
+                       (['access', '-h'], 'a table of types by verbs'), (['access', '--help'], 'names are in the last column'), (['report', '--help'], 'stale aggregates')):
         status, out, err = got = it.run(*line)
         it.checked('help: %s' % ' '.join(line), (status, err) == (0, '') and said.lower() in out.lower(), got)
     for line, options in ((['--help'],
@@ -75,7 +78,8 @@ def tools(it):
                           (['export', '--help'],
                            ['--force', '-n', '--context', '--kubeconfig', '--request-timeout',
                             '--as',
-                                                  '--as-group'])):
+                                                  '--as-group']),
+                          (['access', '--help'], ['--groups', '--group', '-n', '-A', '-o']), (['report', '--help'], ['-o', '--export', '--partial'])):
         out = it.run(*line)[1]
         it.checked('%s fits a screen' % line, out.count('\n') <= 40 and max(map(len, out.splitlines())) <= 120, out)
         it.checked('%s has all options' % line, all(re.search(option + r'\b', out) for option in options), out)
@@ -118,6 +122,9 @@ OWN = {('--export',): 'DIR', ('--partial',): '', ('--context',): 'NAME', ('--kub
        ('--request-timeout',): 'TIME'}
 SHOWN = {('-o', '--output'): 'FORMAT', ('--no-headers',): '', ('--color',): 'WHEN'}
 HELP = ('-h', '--help')
+OF_REPORT = {('-o', '--output'): 'FORMAT'}
+# The commands that rbacaudit hasn't, but universe.
+ALONE = ('access', 'read', 'universe', 'report', 'page', 'export')
 OF_PAGE = {('-n', '--namespace'): 'NS', ('--output',): 'FILE', ('--title',): 'TEXT',
            ('--diff',): 'FILE', ('--every',): ''}
 OF_READ = {('-n', '--namespace'): 'NS'}
@@ -128,7 +135,10 @@ OF_EXPORT = {('--force',): '', ('-n', '--namespace'): 'NS', ('--context',): 'NAM
              ('--request-timeout',): 'TIME', ('--as',): 'USER', ('--as-group',): 'GROUP'}
 NOTHING, FILES, FOLDERS = ':4', ':0', ':16'
 COMPLETED = [
-    ([''], ['can-i', 'who-can', 'rules', 'matrix', 'powers', 'paths', 'lint', 'diff', 'read', 'universe', 'page', 'export'], NOTHING),
+    ([''], ['can-i', 'who-can', 'rules', 'access', 'matrix', 'powers', 'paths', 'lint', 'diff', 'read', 'universe', 'report', 'page', 'export'], NOTHING),
+    (['a'], ['access'], NOTHING), (['access', ''], [], NOTHING), (['access', '-n', 'x', 'u:kim', ''], [], FILES), (['access', '-o', ''], ['table', 'wide', 'json'], NOTHING),
+    (['r'], ['rules', 'read', 'report'], NOTHING), (['report', ''], [], NOTHING), (['report', '-o', ''], ['md', 'json', 'html'], NOTHING),
+    (['report', '--output='], ['md', 'json', 'html'], NOTHING), (['paths', '-o', 'd'], ['dot'], NOTHING), (['paths', '--output=t'], ['table', 'tsv'], NOTHING),
     (['m'], ['matrix'], NOTHING),
     (['-'], ['-h', '--help', '-V', '--version'], NOTHING), (['no', ''], [], NOTHING),
     (['no', '-'], [], NOTHING),
@@ -178,9 +188,10 @@ COMPLETED = [
 
 def options_of(command):
     """The options of a command, with their values: those of rbacaudit, and the plugin's own."""
-    if command in ('diff', 'read', 'export', 'universe', 'page'):
-        own = {'export': OF_EXPORT, 'universe': OWN, 'page': {**OWN, **OF_PAGE}, 'diff': {**OWN, **OF_DIFF, **SHOWN}, 'read': OF_READ}[command]
+    if command in ('diff', 'read', 'export', 'universe', 'report', 'page'):
+        own = {'export': OF_EXPORT, 'universe': OWN, 'report': {**OWN, **OF_REPORT}, 'page': {**OWN, **OF_PAGE}, 'diff': {**OWN, **OF_DIFF, **SHOWN}, 'read': OF_READ}[command]
         return {**own, HELP: ''}
+    command = {'access': 'rules'}.get(command, command)
     return {**{names: value for names, (value, _) in options(command).items()}, **OWN, **SHOWN, **(BARE if command == 'lint' else {})}
 
 
@@ -202,7 +213,7 @@ def completions(it):
         got = offered(words_)
         it.checked('completions of %s' % words_, (sorted(got[0]), got[1]) == (sorted(found), last),
                    got)
-    for command in (*commands(), 'read', 'universe', 'page', 'export'):
+    for command in (*commands(), *ALONE):
         here = options_of(command)
         got = offered([command, '-'])
         it.checked('the options of %s' % command,
@@ -244,7 +255,7 @@ def man_page():
     got = {names: value for names, (value, _) in options_in(text).items()}
     checked('man: the options', got == wanted, repr(got))
     checked('man: the version', '"kubectl\\-rbacaudit 0.1.0"' in text, text[:300])
-    for command in (*commands(), 'read', 'universe', 'page', 'export'):
+    for command in (*commands(), *ALONE):
         checked('man: %s' % command,
                 '.SY "kubectl rbacaudit %s"' % command.replace('-', '\\-') in text, 'no synopsis')
     renders(MAN, {name for names in wanted for name in names})
@@ -280,6 +291,6 @@ def told(words_, folder, tools_=os.path.dirname(PROGRAM)):
 
 if __name__ == '__main__':
     sys.exit(tested(*plugin_exports.CHECKS, *plugin_questions.CHECKS, *plugin_paths.CHECKS, *plugin_remarks.CHECKS, *plugin_changes.CHECKS, *plugin_manifests.CHECKS, *plugin_advice.CHECKS,
-                    *plugin_server.CHECKS, *plugin_terminal.CHECKS, *plugin_show.CHECKS, *plugin_sarif.CHECKS,
+                    *plugin_server.CHECKS, *plugin_terminal.CHECKS, *plugin_show.CHECKS, *plugin_sarif.CHECKS, *plugin_access.CHECKS, *plugin_report.CHECKS,
                     *plugin_states.CHECKS, *plugin_applied.CHECKS, *plugin_law.CHECKS,
                     tools, script, make_run, completions, in_kubectl, man_page))

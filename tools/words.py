@@ -361,12 +361,13 @@ def man_paragraphs(text, program, commands):
 
 # The sections on the plugin's options in its man page, and the options of each.
 OF_PLUGIN = {
-    '.SS "Of each question, of diff, universe and page"': plugin.OWN,
+    '.SS "Of each question, of diff, universe, report and page"': plugin.OWN,
     '.SS "Of each question and of diff"': plugin.SHOWN,
     '.SS "Of diff"': [it for it in plugin.OF_DIFF if it.long != '--namespace' and it != plugin.BARE],
     '.SS "Of diff and lint"': [plugin.BARE],
     '.SS "Of diff and read"': plugin.OF_READ,
     r'.SS "Of export, beside \-\-context, \-\-kubeconfig and \-\-request\-timeout"': [it for it in plugin.OF_EXPORT if it not in plugin.TARGETS],
+    '.SS "Of report"': plugin.OF_REPORT,
     '.SS "Of page"': plugin.OF_PAGE,
 }
 

@@ -22,6 +22,7 @@ if TYPE_CHECKING:
 FAULT = re.compile(r'^rbacaudit: file (\d+)(?: item (\d+))?(?:: (.*)| .*)$', re.M)
 MOST_COUNTED = 1000000
 REPEATED = re.compile(rb'^[^\t\n]*\t(?!-\t)[^\t\n]*\t.*\tClusterRoleBinding/[^\t\n]*$', re.M)
+WHOLE = ('sarif', 'dot')    # forms without lines, whose texts are escaped already
 LAST = re.compile(rb'^(?:end|next\t.*)$', re.M)
 
 
@@ -141,7 +142,7 @@ def show_lines(asking: Asking, lines: Iterable[bytes], rules: str | None = None)
 
 def show_text(asking: Asking, text: str, rules: str | None = None) -> int:
     """Shows an answer that was kept."""
-    if asking.options.format == 'sarif':
+    if asking.options.format in WHOLE:
         print_text(text, as_json=True)
         return 0
     return show_lines(asking, bytes_of(text).splitlines(True), rules)
@@ -162,8 +163,8 @@ class Counts:
 
 # ---- answers
 
-def answer_question(session: Session, options: Options, question: Question) -> int:
-    """Answers a question about an export or a cluster."""
+def open_question(session: Session, options: Options, question: Question) -> Asking:
+    """What a question is asked of, an export or a cluster, once what is odd about it has been said."""
     choose_namespace(session, options, question, look_at_about(options.export).namespace if options.export else '')
     if question.command == 'matrix' and question.files:
         from .remarks import look_for_universes
@@ -172,7 +173,7 @@ def answer_question(session: Session, options: Options, question: Question) -> i
     if question.command in ('can-i', 'who-can', 'rules', 'paths'):
         from .remarks import remark_on_question
         remark_on_question(asking)
-    return answer(asking)
+    return asking
 
 
 def answer(asking: Asking) -> int:
@@ -184,13 +185,9 @@ def answer(asking: Asking) -> int:
         from .remarks import find_stale
         stale = ', '.join(find_stale(asking))
     has_words = question.why and question.command in ('can-i', 'who-can') and form in ('table', 'wide')
-    if form == 'sarif' or has_words or (stale and question.command in ('who-can', 'rules', 'powers', 'paths')):
+    if form in WHOLE or has_words or (stale and question.command in ('who-can', 'rules', 'powers', 'paths')):
         done = ask(asking, line, files)
-        text = done.out
-        if form == 'sarif' and done.status <= 1:
-            from .fields import rows_of
-            from .sarif import of_lint
-            text = of_lint(asking, rows_of(text))
+        text = whole_of(asking, done) if form in WHOLE else done.out
         status = show_text(asking, text, find_rules(asking, done) if has_words and not done.status else None) or done.status
     else:
         status = list_rows(asking, line, files) if question.command == 'matrix' else ask_shown(asking, line, files)
@@ -199,6 +196,18 @@ def answer(asking: Asking) -> int:
         from .remarks import remark_on_stale
         remark_on_stale(asking, stale, line, files, done)
     return status
+
+
+def whole_of(asking: Asking, done: Done) -> str:
+    """An answer in a form that has no lines: nothing of one that isn't whole."""
+    from .fields import rows_of
+    if done.status > 1:
+        return ''
+    if asking.options.format == 'sarif':
+        from .sarif import of_lint
+        return of_lint(asking, rows_of(done.out))
+    from .dot import graph_of
+    return graph_of(asking.question.places[0], rows_of(done.out))
 
 
 def list_rows(asking: Asking, line: list[str], files: list[str]) -> int:

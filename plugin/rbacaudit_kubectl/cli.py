@@ -1,8 +1,9 @@
 """kubectl rbacaudit: exports what rbacaudit reads from a cluster, and asks rbacaudit about it.
 
 kubectl is called with `get`, `config view` and `patch --local`, which reads manifests without a cluster. No answer depends on a document
-that is taken apart here, but for the namespace that -n adds to manifests, the labels that kubectl apply leaves (changes.py), and what is
-made up beside manifests alone (alone.py): where types matter, rbacaudit itself lists them and says which a word means, so no name can mislead.
+that is taken apart here, but for the namespace that -n adds to manifests, the labels that kubectl apply leaves (changes.py), how many
+objects a report counts (report.py), and what is made up beside manifests alone (alone.py): where types matter, rbacaudit itself lists them
+and says which a word means, so no name can mislead.
 """
 
 from __future__ import annotations
@@ -15,7 +16,8 @@ from .processes import Session, Signalled, hold_files
 from .terminal import Ended, Refused, print_text
 
 # The module of each command, which nothing else waits for; the others are questions.
-MODULES = {'export': 'export', 'diff': 'changes', 'read': 'manifests', 'universe': 'listed', 'page': 'page_command'}
+MODULES = {'export': 'export', 'diff': 'changes', 'read': 'manifests', 'universe': 'listed', 'page': 'page_command', 'access': 'access',
+           'report': 'report'}
 
 
 def run_words(session: Session, words: list[str]) -> int:

@@ -43,6 +43,12 @@ def rows_of(text: str) -> list[list[str]]:
     return [line.split('\t') for line in text.split('\n') if line]
 
 
+def place_of(binding: str) -> str:
+    """The namespace of a binding; one with a further / doesn't tell its own."""
+    parts = binding.split('/')
+    return '' if binding.startswith('Cluster') else parts[1] if len(parts) == 3 else binding
+
+
 # ---- the powers: the steps by which somebody takes over somebody else
 
 # (the step; its verbs; its types, each with its group after the first dot; `cluster` where only a ClusterRoleBinding gives it, or the namespace whose

@@ -7,25 +7,24 @@ from collections.abc import Iterator
 from itertools import groupby
 
 from .fields import SHAPES
-from .options import COMMANDS, OF_DIFF, OF_EXPORT, OF_PAGE, OF_READ, OWN, SHOWN, Option
+from .options import COMMANDS, OF_DIFF, OF_EXPORT, OF_PAGE, OF_READ, OF_REPORT, OWN, SHOWN, Option
 
 MAIN = '''\
 Answer questions about the RBAC of a cluster with rbacaudit. kubectl reads the cluster, and nothing in it is changed.
 
 {commands}
 
-can-i, who-can, rules, matrix, powers, paths and lint take rbacaudit's options (see can-i --help), and these:
+can-i, who-can, rules, access, matrix, powers, paths and lint take rbacaudit's options (see can-i --help), and these:
 {options}
 
 Without --export, each question reads the cluster anew. For several questions, and for pages of a matrix, export first:
   kubectl rbacaudit export prod
-  kubectl rbacaudit universe --export prod > universe.json
-  kubectl rbacaudit matrix --export prod universe.json
+  kubectl rbacaudit access --export prod u:kim@example.com
 
 PATH is a file or folder with manifests, a folder with a kustomization, or - for standard input. lint PATH reads no cluster; it knows Kubernetes' own
 roles without --no-defaults. Without -n or -A, can-i and who-can ask about the namespace of the context, or of the context that the export was made
-with; rules lists the rules of all bindings. If -n doesn't count because a type is cluster-scoped, the plugin says so. For bind of cluster roles, and
-for use, it asks in the namespace, as a server does.
+with; rules and access list all bindings. The plugin says where -n doesn't count. For bind of cluster roles, and for use, it asks in the namespace, as
+a server does.
 
 FILEs are read before the files of the export: if both have an object, the export's counts. The exit status is rbacaudit's: 2 is an error. If a part
 that the command reads is missing, nothing is answered and the status is 2, unless --partial is given. Standard error lists each type, subresource,
@@ -125,6 +124,37 @@ universe. The page also shows the findings of lint. Its watch list counts separa
 the Universe document has these names or not. --export, --partial, --context, --kubeconfig and --request-timeout mean what kubectl rbacaudit --help
 says. Exit status: 0 the page is written; 2 an error.
 '''
+ACCESS = '''\
+Show what a user or a group may do, as a table of types by verbs.
+
+  kubectl rbacaudit access [--groups A,B] [--group G].. [-n NS] [-A] WHO [FILE]..
+
+  yes               the verb on every object of the type
+  names             only on objects whose names are in the last column
+  -                 no rule with these words has the verb; a row or a column * may allow it
+
+  -n NS             what counts in the namespace NS, with what holds in the whole cluster. Without it, WHERE
+                    is the namespace of what RoleBindings grant, or * for the whole cluster
+  -A                what holds in the whole cluster alone
+  -o FORMAT         table (default), wide, or json: an object for each type and each URL
+
+WHO is u:NAME for a user or g:NAME for a group. The table is made of the lines of rules, and all words stay as the roles have them: * in the place of a
+verb, type or API group is any, and what it allows isn't repeated elsewhere. URLs come last, in a table of their own. Powers are bold
+(kubectl rbacaudit powers --help), and types that are limited to names are yellow. Standard error names cluster-scoped types that RoleBindings name,
+if the export has API resource lists. The other options mean what kubectl rbacaudit --help says. Exit status: 0 the table is written; 2 an error.
+'''
+REPORT = '''\
+Write one document about the export, for an auditor.
+
+  kubectl rbacaudit report [-o FORMAT]
+
+{options}
+
+The document has what was read, who takes over the whole cluster and by which step, the powers of each user and group, the findings of lint by
+severity, stale aggregates, the groups whose members only a directory knows, and what the report misses; and with each the command that shows more.
+All of it is made of answers of rbacaudit. Findings about Kubernetes' own objects are left out, and counted. --export, --partial, --context,
+--kubeconfig and --request-timeout mean what kubectl rbacaudit --help says. Exit status: 0 the report is written; 2 an error.
+'''
 SHOW = '''\
 Show the lines of rbacaudit: as a table, as JSON, or as names.
 
@@ -166,7 +196,7 @@ LINES = (('can-i', 0, 'yes or no; %s'), ('can-i --why-not', 1, '%s'), ('who-can'
          ('paths', 9, '%s'), ('diff', 11, '%s'), ('diff --summary', 12, 'of the plugin: %s, and at last total in the place of WHO'))
 # The text of a command, its options, and the column of what they do.
 TEXTS = {'': (MAIN, OWN + SHOWN, 21), 'export': (EXPORT, OF_EXPORT, 20), 'diff': (DIFF, OF_DIFF, 19), 'read': (READ, OF_READ, 11),
-         'page': (PAGE, OF_PAGE, 17)}
+         'access': (ACCESS, (), 0), 'report': (REPORT, OF_REPORT, 20), 'page': (PAGE, OF_PAGE, 17)}
 
 
 def described(options: tuple[Option, ...], column: int) -> Iterator[str]:

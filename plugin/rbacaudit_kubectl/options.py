@@ -32,7 +32,7 @@ TARGETS = (Option('--context', 'NAME', 'context', AS_KUBECTL), Option('--kubecon
            Option('--request-timeout', 'TIME', 'timeout', AS_KUBECTL))
 OWN = (Option('--export', 'DIR', 'exports', 'answer from the export in DIR, without a cluster', True),
        Option('--partial', '', 'partial', 'answer although a part of the export is missing'), *TARGETS)
-SHOWN = (Option('-o,--output', 'FORMAT', 'format', 'table (on a terminal), wide, json, name, tsv: plain lines (elsewhere); lint, diff: sarif'),
+SHOWN = (Option('-o,--output', 'FORMAT', 'format', 'table (on a terminal), wide, json, name, tsv: lines (elsewhere); lint, diff: sarif; paths: dot'),
          Option('--no-headers', '', 'headless', 'a table without its head'),
          Option('--color', 'WHEN', 'color', 'with colors: auto, always or never (rbacaudit-show --help)'))
 BARE = Option('--no-defaults', '', 'bare', "with manifests alone, leave out the roles and bindings that Kubernetes itself makes")
@@ -53,6 +53,7 @@ OF_PAGE = (
     Option('--title', 'TEXT', 'title', 'the title of the page'),
     Option('--diff', 'FILE', 'diff', 'changes to show with the rows: lines of rbacaudit diff'),
     Option('--every', '', 'every', 'a row for every binding that grants a request, not only for the first'))
+OF_REPORT = (Option('-o,--output', 'FORMAT', 'format', 'md: Markdown (default), json, or html: the page, with who takes over the whole cluster'),)
 OF_EXPORT = (
     Option('--force', '', 'force', 'replace all files of an export that DIR holds; other files in DIR stay'),
     Option('-n,--namespace', 'NS', 'namespace', 'read only the namespace NS: use this if you may read no other'), *TARGETS,
@@ -87,6 +88,8 @@ COMMANDS: dict[str, Command] = {
     'who-can': Command('[-n NS] VERB TARGET', 'who may do that; with --indirect, by taking over others too', 'VERB TARGET FILE',
                        SCOPE + '--anywhere --any-name --every --why --indirect --steps'),
     'rules': Command('[-n NS] WHO', 'which rules the user u:NAME or the group g:NAME has', 'WHO FILE', '--groups --group --namespace --all-namespaces'),
+    'access': Command('[-n NS] WHO', 'what u:NAME or g:NAME may do: a table of types by verbs', 'WHO FILE',
+                      '--groups --group --namespace --all-namespaces'),
     'matrix': Command('[FILE]..', 'everything that anyone may do', 'FILE', '--every --once --after --limit'),
     'powers': Command('[FILE]..', 'who can act as others or gain permissions', 'FILE'),
     'paths': Command('WHO', 'whom and what u:NAME or g:NAME can take over, step by step', 'WHO FILE', '--groups --group --steps'),
@@ -95,9 +98,12 @@ COMMANDS: dict[str, Command] = {
     'diff': Command('--export OLD --export NEW', 'permissions gained and lost: status 1 if any (diff --help)', own=OF_DIFF + OWN + SHOWN),
     'read': Command('PATH..', 'manifests as JSON, for rbacaudit (read --help)', 'FILE', own=OF_READ),
     'universe': Command('', 'a Universe document to start from, for matrix', own=OWN),
+    'report': Command('[-o FORMAT]', 'all of it for an auditor, as one text (report --help)', own=OF_REPORT + OWN),
     'page': Command('--output access.html', 'all of it as a page for a browser (page --help)', 'FILE', own=OF_PAGE + OWN),
     'export': Command('DIR', 'keep the files, for many questions (export --help)', 'DIR', own=OF_EXPORT)}
 FORMATS = ('table', 'wide', 'json', 'name', 'tsv')
+# (the first is for a terminal; elsewhere it is tsv, if the command has that)
+FORMATS_OF = {'lint': (*FORMATS, 'sarif'), 'diff': (*FORMATS, 'sarif'), 'paths': (*FORMATS, 'dot'), 'access': FORMATS[:3], 'report': ('md', 'json', 'html')}
 VALUES = {'--color': ('auto', 'always', 'never'), '--fail-on': ('changes', 'gains', 'powers')}
 PATHS = ('--with', '--without', '--from', '--to')
 
@@ -213,11 +219,12 @@ def read_options(command: str, words: list[str]) -> Options:
 
 
 def formats_of(command: str) -> tuple[str, ...]:
-    return FORMATS + ('sarif',) if command in ('lint', 'diff') else FORMATS
+    return FORMATS_OF.get(command, FORMATS)
 
 
 def choose_format(options: Options, said_of: str) -> None:
     """Checks the format, before anything is read. Without -o it is a table on a terminal."""
-    options.format, known = options.format or ('table' if os.isatty(1) else 'tsv'), formats_of(said_of)
+    known = formats_of(said_of)
+    options.format = options.format or (known[0] if os.isatty(1) or 'tsv' not in known else 'tsv')
     if options.format not in known:
         raise Refused('%s has no format %s: -o takes %s or %s' % (said_of, options.format, ', '.join(known[:-1]), known[-1]))

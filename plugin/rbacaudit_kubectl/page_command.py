@@ -11,7 +11,7 @@ from . import page
 from .answer import Asking, ask_as_it_comes, ask_well, lines_of
 from .escapes import printable
 from .export import open_export, write_about
-from .fields import has_name, in_field
+from .fields import has_name, in_field, place_of
 from .listed import Type, list_types, make_universe
 from .options import read_options
 from .processes import Session
@@ -40,8 +40,8 @@ def page_command(session: Session, words: list[str]) -> int:
     return write_page(asking)
 
 
-def write_page(asking: Asking) -> int:
-    """Writes the page of the export that is open, and of the FILEs: each text goes to the page as a file."""
+def write_page(asking: Asking, *more: str) -> int:
+    """Writes the page of the export that is open, and of the FILEs: each text goes to the page as a file. `more` are words for the page."""
     session, options, export = asking.session, asking.options, asking.export
     text, types = make_universe(asking)
     given = [session.write('universe.json', text), *asking.question.files]
@@ -56,7 +56,7 @@ def write_page(asking: Asking) -> int:
     if export and export.is_fresh:
         write_about(session, options, export.folder, export.read)
     about = export.path('about.txt') if export and export.has('about.txt') else ''
-    words = [word for name, value in texts.items() for word in (name, session.write('page' + name, value))]
+    words = [*more, *(word for name, value in texts.items() for word in (name, session.write('page' + name, value)))]
     words += ['%s=%s' % pair for pair in (('--diff', options.diff), ('--about', about), ('--title', options.title), ('--output', options.output))
               if pair[1]]
     place = {'namespaces': ['', options.namespace]} if options.namespace else {}
@@ -115,8 +115,3 @@ def holders(asking: Asking, verb: str, group: str, resource: str, *more: str) ->
     lines = ask_well(asking, ['who-can', *question, *files], files).out.splitlines()
     return [(who, binding) for who, _, binding in (line.partition('\t') for line in lines)]
 
-
-def place_of(binding: str) -> str:
-    """The namespace of a binding; one with a further / doesn't tell its own."""
-    parts = binding.split('/')
-    return '' if binding.startswith('Cluster') else parts[1] if len(parts) == 3 else binding

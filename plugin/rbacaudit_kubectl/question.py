@@ -9,7 +9,7 @@ from .processes import NOTHING, Session
 from .terminal import Ended, Refused, print_text
 
 ROLES = ['cluster.json', 'namespaced.json']
-PARTS = {'rules': ROLES, 'powers': ROLES, 'lint': ROLES, 'diff': ROLES, 'paths': [*ROLES, 'accounts.json'],
+PARTS = {'rules': ROLES, 'powers': ROLES, 'lint': ROLES, 'diff': ROLES, 'paths': [*ROLES, 'accounts.json'], 'report': [*ROLES, 'accounts.json'],
          'matrix': [*ROLES, 'namespaces.json', 'accounts.json', 'api']}
 ACCOUNT = 'system:serviceaccount:'
 
@@ -157,8 +157,8 @@ def question_command(session: Session, command: str, words: list[str]) -> int:
     if options.bare and not alone:
         raise Refused('--no-defaults is for manifests alone: an export has the roles that Kubernetes makes')
     accept_words(session, question)
-    from .answer import Asking, answer_question
+    from .answer import Asking, answer, open_question
     if alone:
         from .alone import lint_manifests
         return lint_manifests(Asking(session, options, question))
-    return answer_question(session, options, question)
+    return answer(open_question(session, options, question))

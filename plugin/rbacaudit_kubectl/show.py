@@ -179,6 +179,15 @@ def check_values(found: Mapping[str, str]) -> None:
         raise Refused("can't read " + found['--rules'])
 
 
+def table_of(form: str, headers: bool, color: str) -> Table:
+    """A table that is as wide as the screen, or of the form `wide`."""
+    on_terminal, screen = os.isatty(1), 0
+    if form == 'table' and on_terminal:
+        from shutil import get_terminal_size
+        screen = get_terminal_size().columns
+    return Table(headers, has_colors(color, os.environ), on_terminal, screen)
+
+
 def show(lines: Iterable[bytes], form: str, *, headers: bool = True, color: str = 'auto', rules: str | None = None,
          indirect: bool = False) -> int:
     """Writes lines in a form, as they come, and gives the status. `rules` are lines of rules for a table."""
@@ -189,11 +198,7 @@ def show(lines: Iterable[bytes], form: str, *, headers: bool = True, color: str 
     elif form == 'name':
         texts = names_of(reader.rows_of(map(escaped, given) if on_terminal else given))
     else:
-        screen = 0
-        if form == 'table' and on_terminal:
-            from shutil import get_terminal_size
-            screen = get_terminal_size().columns
-        table = Table(headers, has_colors(color, os.environ), on_terminal, screen)
+        table = table_of(form, headers, color)
         table.take_rules((rules or '').split('\n'))
         texts = table.texts_of(reader.rows_of(map(table.seen, given)))
     with open(1, 'w', encoding='utf-8', errors='surrogateescape', newline='\n', closefd=False) as out:

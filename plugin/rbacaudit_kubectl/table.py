@@ -63,6 +63,11 @@ def codes_of(command: str, cells: Sequence[str]) -> str:
     return ';'.join(code for code in ('1' if powers_of(command, cells) else '', color) if code)
 
 
+def painted(line: str, codes: str) -> str:
+    """A line in the color of these codes, if there are any."""
+    return '\033[%sm%s\033[0m' % (codes, line) if codes else line
+
+
 @dataclass
 class Table:
     """How a table is written, and the rules whose words stand below rows: their lists by source and place."""
@@ -107,16 +112,18 @@ class Table:
     def begin(self, rows: Sequence[Row]) -> tuple[list[int], list[str]]:
         """The widths of columns that the first rows tell, and the head with these rows."""
         heads = [[head for head, _, _ in shape.fields] for shape, _ in rows[:1] if self.has_head]
-        widths = [min(max(map(columns_of, column)), WIDEST) for column in zip(*heads, *(cells for _, cells in rows))]
-        if self.screen and rows:
-            widths = narrowed(widths, self.screen)
+        widths = self.widths_of([*heads, *(cells for _, cells in rows)])
         return widths, [self.line_of(head, widths) + '\n' for head in heads] + [self.text_of(*row, widths) for row in rows]
+
+    def widths_of(self, rows: Iterable[Sequence[str]]) -> list[int]:
+        """The widths of the columns that these rows have."""
+        widths = [min(max(map(columns_of, column)), WIDEST) for column in zip(*rows)]
+        return narrowed(widths, self.screen) if self.screen and widths else widths
 
     def text_of(self, shape: Shape, cells: list[str], widths: list[int]) -> str:
         """A row, and below it the words of the rule that it names."""
         line = self.line_of(cells, widths)
-        codes = codes_of(shape.command, cells) if self.is_painted else ''
-        lines = ['\033[%sm%s\033[0m' % (codes, line) if codes else line]
+        lines = [painted(line, codes_of(shape.command, cells) if self.is_painted else '')]
         if self.rules and len(cells) == {'can-i': 5, 'who-can': 6}.get(shape.command):
             lines += self.word_lines(self.rules.get((cells[-3], cells[-2]), []))
         return '\n'.join([*lines, ''])
