@@ -21,7 +21,6 @@ pub mod Results
 pub mod SameRules
 pub mod Searching
 pub mod SharingRules
-pub mod Spreading
 pub mod Stars
 pub mod Strangers
 pub mod Telling

@@ -8,7 +8,6 @@ pub mod Permissions
 pub mod Requests
 pub mod Sharing
 pub mod Shown
-pub mod Spread
 pub mod StandIns
 pub mod Texts
 pub mod Unchanged

@@ -16,7 +16,6 @@ use crate::covering::{is_asked_for, is_covered};
 use crate::origin::Origin;
 use crate::permission::{Permission, Permitted, permission_text};
 use crate::sharing::sharing;
-use crate::spread::spread;
 use crate::stand_ins::AskedPolicy;
 use crate::standing::covering_place;
 use rbac_covering::OrderedRule;
@@ -259,9 +258,8 @@ fn add_of_group<'a, 'p>(
         (λ p. Any (λ resource. IsOnResource search.now rule.now verb.now group.now resource p)
         rule.now.resources) findings.old findings.new) }
 {
-    let resources = spread(alloc, rule.resources.as_slice())?;
-    for turn in 0..resources.len() {
-        add_of_resource(alloc, search, rule, verb, group, resources[turn], findings)?;
+    for resource in rule.resources.as_slice() {
+        add_of_resource(alloc, search, rule, verb, group, resource, findings)?;
     }
     Ok(())
 }
@@ -293,13 +291,12 @@ fn add_of_resource<'a, 'p>(
         };
         return add(alloc, search, verb, target, findings);
     }
-    let names = spread(alloc, rule.resource_names.as_slice())?;
-    for turn in 0..names.len() {
+    for name in rule.resource_names.as_slice() {
         let target = Permitted::Resource {
             namespace,
             group,
             resource,
-            name: Some(names[turn]),
+            name: Some(name),
         };
         add(alloc, search, verb, target, findings)?;
     }

@@ -15,7 +15,6 @@ mod named;
 mod origin;
 mod permission;
 mod sharing;
-mod spread;
 mod stand_ins;
 mod standing;
 mod subjects;
