@@ -1,0 +1,9 @@
+pub mod Allowing
+pub mod AskedOf
+pub mod Exact
+pub mod FirstPlaces
+pub mod PartLines
+pub mod Places
+pub mod RuleLines
+pub mod Usable
+pub mod Words

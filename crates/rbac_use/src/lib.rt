@@ -1,0 +1,18 @@
+//! Which permissions of which bindings a set of requests uses.
+#![tactic(auto)]
+
+mod asked;
+mod bindings;
+mod laws;
+mod line;
+mod permission;
+mod request;
+mod rules;
+mod unused;
+mod usable;
+
+pub use laws::{unused_lines_are_one, what_is_unused_isnt_needed};
+pub use line::put_unused;
+pub use permission::TargetPlaces;
+pub use request::Request;
+pub use unused::{Part, Unused, unused_lines};
