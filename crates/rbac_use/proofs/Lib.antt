@@ -1,9 +1,10 @@
 pub mod Allowing
 pub mod AskedOf
+pub mod CanMatch
 pub mod Exact
 pub mod FirstPlaces
+pub mod Needed
 pub mod PartLines
 pub mod Places
 pub mod RuleLines
-pub mod Usable
 pub mod Words

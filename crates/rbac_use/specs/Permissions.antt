@@ -28,10 +28,14 @@ resource_permission verb group resource names = record {
   urls = [];
 }
 
+-- no object names, if there are none
+abbrev pub no_names : List Text → Option (List Text)
+no_names [] = Some []
+no_names (name ∷ names) = None
+
 -- the object name at that place, alone; without a place none, if the rule has none
 abbrev pub names_at : List Text → Option ℕ → Option (List Text)
-names_at [] None = Some []
-names_at (name ∷ names) None = None
+names_at names None = no_names names
 names_at names (Some i) = option_map (λ name. name ∷ []) (slice_get names i)
 
 -- the rule for the words at these places, if the lists have them: a verb on a URL; or a verb on a

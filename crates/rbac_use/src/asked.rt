@@ -66,11 +66,7 @@ pub(crate) fn is_asked(asked: &[Request<'_>], rule: &Rule) -> bool
 
 // Whether a subject of a binding in this namespace, or of a ClusterRoleBinding if there is none,
 // names who makes one of the requests.
-pub(crate) fn has_asked(
-    asked: &[Request<'_>],
-    subject: &Subject,
-    namespace: Option<&Word>,
-) -> bool
+pub(crate) fn has_asked(asked: &[Request<'_>], subject: &Subject, namespace: Option<&Word>) -> bool
     ensures { IsTrue result ↔ HasAskedBy asked.now (option_copied namespace.entry) subject.now }
 {
     asked

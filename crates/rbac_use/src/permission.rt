@@ -1,9 +1,9 @@
 //! The permissions of a rule.
 
-ghost use Rattle.std.specs.Prelude.{◌≡◌, ◌↔◌, ◌∷◌, [], IfOk, IsTrue, None, option_copied};
+ghost use Rattle.std.specs.Prelude.{◌≡◌, ◌↔◌, ◌∷◌, [], IfOk, IsTrue, option_copied};
 ghost use Rattle.std.specs.Prelude.{option_and_then, option_map, slice_get};
 ghost use Rattle.rbac_use.specs.Permissions.{AreFirstOfResource, AreFirstPlaces, IsFirstName};
-ghost use Rattle.rbac_use.specs.Permissions.{IsFirstPlace, names_at};
+ghost use Rattle.rbac_use.specs.Permissions.{IsFirstPlace, names_at, no_names};
 ghost use Rattle.rbac_use.specs.Permissions.{permission_at, resource_permission, url_permission};
 
 use rbac_terms::{Rule, Word, Words};
@@ -117,7 +117,7 @@ fn names_at(alloc: Global, names: &Words, place: Option<usize>) -> Result<Option
 
 // No object names, if there are none.
 fn no_names(alloc: Global, names: &Words) -> Option<Words>
-    ensures { result ≡ names_at names.now None }
+    ensures { result ≡ no_names names.now }
 {
     if names.is_empty() {
         Some(Words::new(alloc))
