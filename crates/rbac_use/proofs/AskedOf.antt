@@ -1,5 +1,7 @@
 -- What the requests that a binding allows use is what the log uses.
-use Rattle.std.proofs.Common.{◌≡◌, ◌≢◌, ℕ, ◌↔◌, List, [], ◌∷◌, Option, Some, None, Any, Contains, length, map, slice_get, inl, inr, refl, sym, ap, subst, arith, ◌∙◌, option_map}
+use Rattle.std.proofs.Common.{get_or, take, ◌++◌, ◌+◌, ◌<◌, ◌≡◌, ◌≢◌, ℕ, ◌↔◌, List, [], ◌∷◌, Option, Some, None, Any, Contains, length, map, slice_get, inl, inr, refl, sym, ap, subst, arith, ◌∙◌, option_map}
+use Rattle.std.proofs.lemmas.List.{take_more}
+use Rattle.std.proofs.lemmas.List.Elements.{Contains-append_left, Contains-push, Contains-push_cases}
 use Rattle.std.proofs.lemmas.Option.{same_Some, slice_get_read, slice_get-map}
 use Rattle.rbac_terms.specs.Text.{Text}
 use Rattle.rbac_terms.specs.Targets.{What}
@@ -82,3 +84,31 @@ module _ (p : PolicyView) (place : ℕ) (requests asked : List Request) (are : A
           in_log (AllowsThrough g.binding rule) requests w.1 h.0 (counts_too (request_of w.1) h.1, w.4)
           ),
     )
+
+-- ---- one request more
+
+module _ (p : PolicyView) (place : ℕ) (done asked : List Request) (q : Request) (are : AreAskedAt p place done asked) where
+  pub asked_one : IsAllowedAt p place (request_of q) → AreAskedAt p place (done ++ q ∷ []) (asked ++ q ∷ [])
+  asked_one allowed x = (
+    λ c. elim (Contains-push_cases asked q x c) [
+      | inl h ↦ (let both = (are x).0 h in (Contains-append_left done (q ∷ []) x both.0, both.1))
+      | inr e ↦ subst (λ (y : Request). Contains (done ++ q ∷ []) y × IsAllowedAt p place (request_of y)) e (Contains-push done q, allowed)
+    ],
+    λ w. elim (Contains-push_cases done q x w.0) [
+      | inl h ↦ Contains-append_left asked (q ∷ []) x ((are x).1 (h, w.1))
+      | inr e ↦ subst (λ (y : Request). Contains (asked ++ q ∷ []) y) e (Contains-push asked q)
+    ],
+  )
+
+  pub asked_none : (IsAllowedAt p place (request_of q) → ⊥) → AreAskedAt p place (done ++ q ∷ []) asked
+  asked_none not x = (
+    λ c. (let both = (are x).0 c in (Contains-append_left done (q ∷ []) x both.0, both.1)),
+    λ w. elim (Contains-push_cases done q x w.0) [
+      | inl h ↦ (are x).1 (h, w.1)
+      | inr e ↦ absurd (not (subst (λ (y : Request). IsAllowedAt p place (request_of y)) (sym e) w.1))
+    ],
+  )
+
+-- a request more of those that are given
+pub one_taken : (requests : List Request) (i : ℕ) (q : Request) → i < length requests → q ≡ get_or requests i q → take (i + 1) requests ≡ take i requests ++ q ∷ []
+one_taken requests i q lt is = take_more requests i q lt ∙ ap (λ (x : Request). take i requests ++ x ∷ []) (sym is)

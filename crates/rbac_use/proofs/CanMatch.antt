@@ -1,12 +1,14 @@
 -- When some request can match a rule through a binding.
-use Rattle.std.proofs.Common.{◌≡◌, ◌≢◌, ℕ, ◌<◌, ◌⊎◌, ◌↔◌, List, [], ◌∷◌, Option, Some, None, Any, Contains, length, inl, inr, refl, sym, ap, subst, arith}
+use Rattle.std.proofs.Common.{true, false, Bor, IsSome, ◌≡◌, ◌≢◌, ℕ, ◌<◌, ◌⊎◌, ◌↔◌, List, [], ◌∷◌, Option, Some, None, Any, Contains, length, inl, inr, refl, sym, ap, subst, arith}
+use Rattle.std.specs.Option.{is_some, option_copied}
 use Rattle.rbac_terms.specs.Text.{Text}
 use Rattle.rbac_terms.specs.Targets.{What, Resource, Url, IsProper, IsResourceText}
-use Rattle.rbac_terms.specs.Principals.{Who}
+use Rattle.rbac_terms.specs.Principals.{Who, AsUser, AsMember, account_user}
 use Rattle.rbac_terms.specs.Granting.{Names}
 use Rattle.rbac_terms.specs.Matching.{NameMatches, ResourceWordMatches, TargetOk, UrlWordMatches, WordMatches}
 use Rattle.rbac_terms.specs.declared.granting.Binding.{Binding}
 use Rattle.rbac_terms.specs.declared.granting.Subject.{Subject}
+use Rattle.rbac_terms.specs.declared.granting.Subject.TheVariants.{User, Group, Account}
 use Rattle.rbac_terms.specs.declared.matching.Rule.{Rule}
 use Rattle.rbac_model.specs.OwnWords.{GivesPath}
 use Rattle.rbac_model.specs.Policies.{BindingNames, Live}
@@ -108,3 +110,28 @@ has_target own r asked (Url path) proper live ok = inr (
 
 pub somebody_named : (b : Binding) (who : Who) → BindingNames b who → HasSomebody b
 somebody_named b who w = (w.0, w.1, w.2, w.3, (who, w.4))
+
+-- ---- whom a subject names
+
+pub account_some : (own namespace : Option Text) (name : Text) → IsSome own ⊎ IsSome namespace → NamesSomebody namespace (Account own name)
+account_some (Some n) namespace name h = (AsUser (account_user n name) [], refl)
+account_some None (Some n) name h = (AsUser (account_user n name) [], refl)
+account_some None None name (inl h) = absurd (let both : false ≡ true = h in cc)
+account_some None None name (inr h) = absurd (let both : false ≡ true = h in cc)
+
+needs_namespace : (namespace : Option Text) (name : Text) → NamesSomebody namespace (Account None name) → is_some namespace ≡ true
+needs_namespace None name w = absurd w.1
+needs_namespace (Some n) name w = refl
+
+pub account_needs : (own namespace : Option Text) (name : Text) → is_some own ≡ false → NamesSomebody namespace (Account own name) → is_some namespace ≡ true
+account_needs None namespace name e w = needs_namespace namespace name w
+account_needs (Some n) namespace name e w = absurd (let both : true ≡ false = e in cc)
+
+pub some_copied : (o : Option (Bor Text)) → is_some (option_copied o) ≡ is_some o
+some_copied None = refl
+some_copied (Some w) = refl
+
+pub others_somebody : (s : Subject) (namespace : Option Text) → ((own : Option Text) (name : Text) → s ≡ Account own name → ⊥) → NamesSomebody namespace s
+others_somebody (User name) namespace not = (AsUser name [], refl)
+others_somebody (Group name) namespace not = (AsMember name, refl)
+others_somebody (Account own name) namespace not = absurd (not own name refl)

@@ -112,3 +112,9 @@ module _ (P : ℕ → Unused → Type 0) where
         λ h. (h.0, omega (arith, within h.0 x h.1, le), h.1),
         λ h. (h.0, h.2),
       ))
+
+-- ---- from nothing
+
+pub added_alone : (P : Unused → Type 0) (new : List Unused) → AddsLines P [] new → AreExactly P new
+unfolding AddsLines
+added_alone P new h = subst (AreExactly P) (sym h.2) h.1

@@ -1,5 +1,5 @@
 -- The first places of the words of a list.
-use Rattle.std.proofs.Common.{◌≡◌, ℕ, ◌<◌, List, Option, Some, Any, Contains, get_or, length, slice_get, take, inl, inr, refl, sym, ap, subst, arith, ◌∙◌}
+use Rattle.std.proofs.Common.{true, false, not, Bool, IsTrue, ◌↔◌, ◌≡◌, ℕ, ◌<◌, List, Option, Some, Any, Contains, get_or, length, slice_get, take, inl, inr, refl, sym, ap, subst, arith, ◌∙◌}
 use Rattle.std.proofs.lemmas.List.{get_or-take, length-take}
 use Rattle.std.proofs.lemmas.Option.{same_Some, slice_get_read, slice_get_within, get_or_from_slice_get}
 use Rattle.rbac_terms.specs.Text.{Text}
@@ -36,3 +36,14 @@ first_with xs w c = elim (first_of (λ (x : Text). x ≡ w) (λ x. same_text x w
   | inl f ↦ (f.0, subst (λ (x : Text). IsFirstAt (λ y. y ≡ w) xs f.0 x) f.2.holds f.2)
   | inr none ↦ absurd (none (any_from (λ (x : Text). x ≡ w) xs w c refl))
 ]
+
+-- a test of the earlier places decides it
+pub first_by_test : (words : List Text) (i : ℕ) (w : Text) → slice_get words i ≡ Some w → (b : Bool) → (IsTrue b ↔ Contains (take i words) w) → IsTrue (not b) ↔ IsFirstPlace words i
+first_by_test words i w at true d = (
+  λ t. absurd (let both : false ≡ true = t in cc),
+  λ first. absurd (isnt_first words i w at (d.0 refl) first),
+)
+first_by_test words i w at false d = (
+  λ t. is_first words i w at (λ c. (let both : false ≡ true = d.1 c in cc)),
+  λ first. refl,
+)

@@ -39,7 +39,7 @@ module _ (p : PolicyView) (place : ℕ) (log : List RequestView) where
   pub used_binding : (n : ℕ) (g : GrantView) → IsGrantOf p place n g → IsUsed log g.binding g.rule.rule → IsUsedAt p log place
   used_binding n g of w = any_weaker (AllowsThrough g.binding g.rule.rule) (IsAllowedAt p place) log (λ r a. (n, g, of, a)) w
 
-  abbrev WholeLine : Unused → Type 0
+  abbrev pub WholeLine : Unused → Type 0
   WholeLine x = (x ≡ line_at place Whole) × HasPermissions p place
 
   -- of a binding that isn't used, all of it is unused, or nothing is told

@@ -1,15 +1,21 @@
 -- Where the lines of a rule stand, and that their places are within the rule's lists.
-use Rattle.std.proofs.Common.{◌≡◌, ℕ, ◌<◌, ◌⊎◌, List, [], ◌∷◌, ◌++◌, Option, Some, None, length, slice_get, inl, inr, refl, sym, ap, subst}
-use Rattle.std.proofs.lemmas.Option.{slice_get_within}
+use Rattle.std.proofs.Common.{arith, ◌≤◌, ◌↔◌, ◌∙◌, ◌≡◌, ℕ, ◌<◌, ◌⊎◌, List, [], ◌∷◌, ◌++◌, Option, Some, None, length, slice_get, inl, inr, refl, sym, ap, subst}
+use Rattle.std.proofs.lemmas.Option.{same_Some, slice_get_within}
 use Rattle.rbac_terms.specs.Text.{Text}
-use Rattle.rbac_use.specs.Adding.{line_at}
-use Rattle.rbac_use.specs.Rules.{IsGroupLine, IsIdleAt, IsNameLine, IsPermissionLine, IsResourceLine, IsRuleLine, IsUrlLine, IsVerbLine, UseView}
+use Rattle.rbac_use.specs.Adding.{AddsLines, OfFirst, OfSome, line_at}
+use Rattle.rbac_use.specs.Asked.{IsAskedBy}
+use Rattle.rbac_use.specs.Rules.{IsGrantLine, IsGroupLine, IsNameLine, IsPermissionLine, IsResourceLine, IsRuleLine, IsUrlLine, IsVerbLine, UseView, grant_use}
 use Rattle.rbac_use.specs.Unused.{line_places}
 use Rattle.rbac_use.specs.declared.permission.TargetPlaces.{TargetPlaces}
 use Rattle.rbac_use.specs.declared.permission.TargetPlaces.TheVariants.{Resource, Url}
-use Rattle.rbac_use.specs.declared.unused.Part.TheVariants.{Permission}
+use Rattle.rbac_use.specs.Used.{CanBeUsed, IsGrantOf}
+use Rattle.rbac_use.specs.declared.request.Request.{Request}
+use Rattle.rbac_use.specs.declared.unused.Part.TheVariants.{Permission, Rule}
 use Rattle.rbac_use.specs.declared.unused.Unused.{Unused}
-use Rattle.rbac_use.proofs.Places.{BeginsAt, StandAt}
+use Rattle.rbac_model.specs.Policies.{GrantView, IsOfBinding, PolicyView}
+use Rattle.rbac_use.proofs.Exact.{lines_append, lines_none, lines_one, lines_same, lines_some}
+use Rattle.rbac_use.proofs.Grants.{number_within}
+use Rattle.rbac_use.proofs.Places.{StandAt, before_at, before_longer}
 use Rattle.rbac_use.proofs.Words.{name_within, resource_words, url_words}
 
 module _ (u : UseView) (verb : ℕ) where
@@ -67,3 +73,60 @@ pub verb_within : (u : UseView) (verb : ℕ) (x : Unused) → IsVerbLine u verb 
 verb_within u verb x (inl (k, h)) = let w = url_words u.rule h.1.0 verb k h.1.1.1 in slice_get_within u.rule.verbs verb w.verb w.verb_at
 verb_within u verb x (inr (j, (k, inl h))) = verb_of u verb j k None x h
 verb_within u verb x (inr (j, (k, inr (l, h)))) = verb_of u verb j k (Some l) x h
+
+-- ---- one after the other
+
+-- the lines for URLs, and then those for resources
+pub verb_lines : (u : UseView) (verb : ℕ) (old mid new : List Unused) → AddsLines (OfSome (IsUrlLine u verb)) old mid → AddsLines (OfSome (IsGroupLine u verb)) mid new → AddsLines (IsVerbLine u verb) old new
+verb_lines u verb old mid new p q =
+    lines_append (OfSome (IsUrlLine u verb)) (OfSome (IsGroupLine u verb)) (IsVerbLine u verb) old mid new p q
+    (λ a b h g. (
+    let one = url_stands u verb h.0 a h.1 in
+    let other = group_stands u verb g.0 b g.1 in
+    before_at (u.place ∷ 1 ∷ u.number ∷ verb ∷ []) 0 1 a b (omega arith) (h.0 ∷ one.0, one.1) (g.0 ∷ other.0, other.1)
+    ))
+    (λ x. (λ h. h, λ h. h))
+
+-- the line for any name, and then those for one
+pub resource_lines : (u : UseView) (verb group resource : ℕ) (old mid new : List Unused) → AddsLines (IsPermissionLine u verb (Resource group resource None)) old mid → AddsLines (OfSome (IsNameLine u verb group resource)) mid new → AddsLines (IsResourceLine u verb group resource) old new
+resource_lines u verb group resource old mid new p q =
+    lines_append (IsPermissionLine u verb (Resource group resource None)) (OfSome (IsNameLine u verb group resource)) (IsResourceLine u verb group resource) old mid new p q
+    (λ a b h g. before_longer (u.place ∷ 1 ∷ u.number ∷ verb ∷ 1 ∷ group ∷ resource ∷ []) g.0 a b (any_stands u verb group resource a h) (name_stands u verb group resource g.0 b g.1))
+    (λ x. (λ h. h, λ h. h))
+
+-- the permissions of a rule that is used
+pub lines_by_verbs : (u : UseView) (old new : List Unused) → IsAskedBy u.asked u.rule → AddsLines (OfSome (IsVerbLine u)) old new → AddsLines (IsRuleLine u) old new
+lines_by_verbs u old new by p =
+    lines_same (OfSome (IsVerbLine u)) (IsRuleLine u) old new p (λ x. (
+      λ h. elim h [ inl a ↦ absurd (a.1.1 by) | inr b ↦ b.1 ],
+      λ h. inr (by, h),
+    ))
+
+-- a rule that isn't used
+pub line_of_rule : (u : UseView) (old new : List Unused) → ¬ IsAskedBy u.asked u.rule → CanBeUsed u.binding u.rule → new ≡ old ++ line_at u.place (Rule u.number) ∷ [] → AddsLines (IsRuleLine u) old new
+line_of_rule u old new not can e =
+    lines_one (IsRuleLine u) old new (line_at u.place (Rule u.number)) e (inl (refl, (can, not))) (λ y h. elim h [ inl a ↦ a.0 | inr b ↦ absurd (not b.0) ])
+
+pub no_line_of_rule : (u : UseView) (old : List Unused) → ¬ IsAskedBy u.asked u.rule → ¬ CanBeUsed u.binding u.rule → AddsLines (IsRuleLine u) old old
+no_line_of_rule u old not cant = lines_none (IsRuleLine u) old (λ x h. elim h [ inl a ↦ cant a.1.0 | inr b ↦ not b.0 ])
+
+-- ---- the lines of grants
+
+pub grant_stands : (p : PolicyView) (place : ℕ) (asked : List Request) (n : ℕ) → StandAt (place ∷ 1 ∷ n ∷ []) (IsGrantLine p place asked n)
+grant_stands p place asked n x (g, of, h) = rule_stands (grant_use place asked n g) x h
+
+pub lines_of_grant : (p : PolicyView) (place : ℕ) (asked : List Request) (n : ℕ) (g : GrantView) (old new : List Unused) → IsGrantOf p place n g → AddsLines (IsRuleLine (grant_use place asked n g)) old new → AddsLines (IsGrantLine p place asked n) old new
+lines_of_grant p place asked n g old new of q =
+    lines_same (IsRuleLine (grant_use place asked n g)) (IsGrantLine p place asked n) old new q (λ x. (
+      λ h. subst (λ (v : GrantView). IsRuleLine (grant_use place asked n v) x) (same_Some h.0 g (sym h.1.grant ∙ of.grant)) h.2,
+      λ h. (g, of, h),
+    ))
+
+module _ (p : PolicyView) (place : ℕ) (asked : List Request) (from end : ℕ) (between : (n at : ℕ) → IsOfBinding p n at → ((from ≤ n) × (n < end)) ↔ (at ≡ place)) where
+  pub no_earlier : (old : List Unused) → AddsLines (OfFirst (IsGrantLine p place asked) from) old old
+  no_earlier old = lines_none (OfFirst (IsGrantLine p place asked) from) old
+      (λ x h. (let within = number_within p place from end between h.0 h.2.0 h.2.1 in omega (arith, h.1, within.0)))
+
+  pub no_later : (i : ℕ) (old new : List Unused) → end ≤ i → AddsLines (OfFirst (IsGrantLine p place asked) i) old new → AddsLines (OfSome (IsGrantLine p place asked)) old new
+  no_later i old new le q =
+      lines_some (IsGrantLine p place asked) end i old new le (λ k x h. (let within = number_within p place from end between k h.0 h.1 in within.1)) q

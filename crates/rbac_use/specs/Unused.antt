@@ -39,11 +39,14 @@ IsUnusedPart p log place (Permission n verb target) = (g : GrantView) × (permis
 abbrev pub IsPartLine : PolicyView → List RequestView → ℕ → Unused → Type 0
 IsPartLine p log place x = (x.binding ≡ place) × IsUnusedPart p log place x.part
 
--- the binding at that place isn't left out: bindings whose names begin with `system:` are, if this
--- is asked for (own)
+-- the binding isn't left out: those whose names begin with `system:` are, if this is asked for (own)
+abbrev pub Keeps : Bool → Binding → Type 0
+Keeps skip_system b = IsTrue skip_system → ¬ BeginsWith b.name (codes "system:")
+
+-- the binding at that place isn't left out
 abbrev pub IsKept : PolicyView → Bool → ℕ → Type 0
 IsKept p skip_system place = (b : Binding) × (slice_get p.held.bindings place ≡ Some b)
-    × (IsTrue skip_system → ¬ BeginsWith b.name (codes "system:"))
+    × Keeps skip_system b
 
 -- x is a line of the binding at that place, which isn't left out
 abbrev pub IsUnusedAt : PolicyView → List RequestView → Bool → ℕ → Unused → Type 0

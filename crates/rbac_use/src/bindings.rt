@@ -1,6 +1,6 @@
 //! The unused parts of a binding.
 
-ghost use Rattle.std.specs.Prelude.{◌≡◌, ◌<◌, ◌↔◌, IsTrue, OnOk, length, option_copied};
+ghost use Rattle.std.specs.Prelude.{◌≡◌, ◌<◌, ◌↔◌, [], IsTrue, OnOk, length, option_copied};
 ghost use Rattle.rbac_use.specs.Adding.{AddsLines, OfSome, line_at};
 ghost use Rattle.rbac_use.specs.Asked.{IsIdleSubject, IsSubjectLine};
 ghost use Rattle.rbac_use.specs.Requests.{log_of};
@@ -31,11 +31,18 @@ pub(crate) fn add_of_binding(
         found.old.items found.new.items) }
 {
     let asked = asked_at(alloc, policy, requests, place)?;
-    if asked.is_empty() {
+    if are_none(asked.as_slice()) {
         return add_whole(policy, place, found);
     }
     add_subjects(place, &policy.bindings()[place], asked.as_slice(), found)?;
     add_grants(alloc, policy, place, asked.as_slice(), found)
+}
+
+// Whether there are no requests.
+fn are_none(asked: &[Request<'_>]) -> bool
+    ensures { IsTrue result ↔ (asked.now ≡ []) }
+{
+    asked.is_empty()
 }
 
 // Adds the line of the binding at this place, which allows no request, if it has permissions.

@@ -1,7 +1,7 @@
 //! The permissions of a rule.
 
-ghost use Rattle.std.specs.Prelude.{◌≡◌, ◌↔◌, ◌∷◌, [], IfOk, IsTrue, option_copied};
-ghost use Rattle.std.specs.Prelude.{option_and_then, option_map, slice_get};
+ghost use Rattle.std.specs.Prelude.{◌≡◌, ◌↔◌, ◌∷◌, [], Contains, IfOk, IsTrue};
+ghost use Rattle.std.specs.Prelude.{option_and_then, option_copied, option_map, slice_get};
 ghost use Rattle.rbac_use.specs.Permissions.{AreFirstOfResource, AreFirstPlaces, IsFirstName};
 ghost use Rattle.rbac_use.specs.Permissions.{IsFirstPlace, names_at, no_names};
 ghost use Rattle.rbac_use.specs.Permissions.{permission_at, resource_permission, url_permission};
@@ -176,7 +176,13 @@ fn is_first(words: &[Word], place: usize) -> bool
     ensures { IsTrue result ↔ IsFirstPlace words.now place }
 {
     match words.get(place) {
-        Some(word) => !words[..place].contains(word),
+        Some(word) => !has_word(&words[..place], word),
         None => false,
     }
+}
+
+fn has_word(words: &[Word], word: &Word) -> bool
+    ensures { IsTrue result ↔ Contains words.now word.now }
+{
+    words.contains(word)
 }

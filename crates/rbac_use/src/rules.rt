@@ -16,20 +16,20 @@ use std::alloc::{AllocError, Global};
 
 // A grant, and the requests that its binding allows.
 #[derive(Clone, Copy)]
-pub(crate) struct GrantUse<'a> {
+pub(crate) struct GrantUse<'p, 'a, 'r> {
     // The place of the binding.
     pub(crate) place: usize,
     // The number of the grant.
     pub(crate) number: u32,
-    pub(crate) binding: &'a Binding,
-    pub(crate) rule: &'a Rule,
-    pub(crate) asked: &'a [Request<'a>],
+    pub(crate) binding: &'p Binding,
+    pub(crate) rule: &'p Rule,
+    pub(crate) asked: &'a [Request<'r>],
 }
 
 // Adds the line of the rule, if no request uses it; otherwise those of its unused permissions.
 pub(crate) fn add_of_rule(
     alloc: Global,
-    used: GrantUse<'_>,
+    used: GrantUse<'_, '_, '_>,
     found: &mut Vec<Unused>,
 ) -> Result<(), AllocError>
     ensures { OnOk result
@@ -50,7 +50,7 @@ pub(crate) fn add_of_rule(
 // Adds the lines of the unused permissions, verb by verb.
 fn add_permissions(
     alloc: Global,
-    used: GrantUse<'_>,
+    used: GrantUse<'_, '_, '_>,
     found: &mut Vec<Unused>,
 ) -> Result<(), AllocError>
     ensures { OnOk result
@@ -67,7 +67,7 @@ fn add_permissions(
 // Adds the lines of the unused permissions with this verb for URLs.
 fn add_urls(
     alloc: Global,
-    used: GrantUse<'_>,
+    used: GrantUse<'_, '_, '_>,
     verb: usize,
     found: &mut Vec<Unused>,
 ) -> Result<(), AllocError>
@@ -85,7 +85,7 @@ fn add_urls(
 // Adds the lines of the unused permissions with this verb for resources.
 fn add_resources(
     alloc: Global,
-    used: GrantUse<'_>,
+    used: GrantUse<'_, '_, '_>,
     verb: usize,
     found: &mut Vec<Unused>,
 ) -> Result<(), AllocError>
@@ -103,7 +103,7 @@ fn add_resources(
 // Adds the lines of the unused permissions with this verb for resources of this API group.
 fn add_of_group(
     alloc: Global,
-    used: GrantUse<'_>,
+    used: GrantUse<'_, '_, '_>,
     verb: usize,
     group: usize,
     found: &mut Vec<Unused>,
@@ -122,7 +122,7 @@ fn add_of_group(
 // or for each name of the rule.
 fn add_of_resource(
     alloc: Global,
-    used: GrantUse<'_>,
+    used: GrantUse<'_, '_, '_>,
     verb: usize,
     group: usize,
     resource: usize,
@@ -143,7 +143,7 @@ fn add_of_resource(
 // Adds the lines of the unused permissions with this verb for this resource and an object name.
 fn add_names(
     alloc: Global,
-    used: GrantUse<'_>,
+    used: GrantUse<'_, '_, '_>,
     verb: usize,
     group: usize,
     resource: usize,
@@ -167,7 +167,7 @@ fn add_names(
 // Adds the line of the permission with these words, if some request can match it and none uses it.
 fn add(
     alloc: Global,
-    used: GrantUse<'_>,
+    used: GrantUse<'_, '_, '_>,
     verb: usize,
     target: TargetPlaces,
     found: &mut Vec<Unused>,
@@ -191,7 +191,7 @@ fn add(
 // Whether the permission with these words can be used, and no request uses it.
 fn is_idle(
     alloc: Global,
-    used: GrantUse<'_>,
+    used: GrantUse<'_, '_, '_>,
     verb: usize,
     target: TargetPlaces,
 ) -> Result<bool, AllocError>
@@ -207,7 +207,7 @@ fn is_idle(
 }
 
 // Whether the permission can be used, and no request uses it.
-fn is_unused(used: GrantUse<'_>, permission: &Rule) -> bool
+fn is_unused(used: GrantUse<'_, '_, '_>, permission: &Rule) -> bool
     ensures { IsTrue result ↔ IsIdle (use_of used.entry) permission.now }
 {
     can_be_used(used.binding, permission) && !is_asked(used.asked, permission)

@@ -5,7 +5,7 @@ ghost use Rattle.rbac_terms.specs.Text.{BeginsWith};
 ghost use Rattle.rbac_model.specs.Policies.{IsPolicy};
 ghost use Rattle.rbac_use.specs.Adding.{AddsLines};
 ghost use Rattle.rbac_use.specs.Requests.{log_of};
-ghost use Rattle.rbac_use.specs.Unused.{AreUnused, IsUnusedAt};
+ghost use Rattle.rbac_use.specs.Unused.{AreUnused, IsUnusedAt, Keeps};
 
 use crate::bindings::add_of_binding;
 use crate::permission::TargetPlaces;
@@ -88,10 +88,17 @@ fn add_kept(
         (IsUnusedAt policy.now (log_of requests.now) skip_system place)
         found.old.items found.new.items) }
 {
-    if skip_system && is_system(&policy.bindings()[place]) {
+    if !is_kept(&policy.bindings()[place], skip_system) {
         return Ok(());
     }
     add_of_binding(alloc, policy, requests, place, found)
+}
+
+// Whether the binding isn't left out.
+fn is_kept(binding: &Binding, skip_system: bool) -> bool
+    ensures { IsTrue result ↔ Keeps skip_system binding.now }
+{
+    !skip_system || !is_system(binding)
 }
 
 // Whether the name of the binding begins with `system:`.
