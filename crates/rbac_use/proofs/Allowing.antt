@@ -1,11 +1,11 @@
 -- What a rule allows, one of its permissions allows.
-use Rattle.std.proofs.Common.{◌≡◌, ℕ, ◌<◌, ◌⊎◌, List, [], ◌∷◌, Option, Some, None, Any, Contains, slice_get, inl, inr, refl, sym, ap, subst, arith, ◌∙◌}
+use Rattle.std.proofs.Common.{◌≡◌, ℕ, List, [], ◌∷◌, Option, Some, None, Any, inl, inr, refl, ap, arith}
 use Rattle.rbac_terms.specs.Text.{Text}
 use Rattle.rbac_terms.specs.Targets.{What, Resource, Url}
 use Rattle.rbac_terms.specs.Matching.{NameMatches, ResourceWordMatches, RuleAllows, UrlWordMatches, WordMatches}
 use Rattle.rbac_terms.specs.declared.matching.Rule.{Rule}
 use Rattle.rbac_model.specs.Lists.{IsFirstAt}
-use Rattle.rbac_use.specs.Permissions.{IsFirstName, IsPermissionAt, names_at, no_names, permission_at, resource_permission, url_permission}
+use Rattle.rbac_use.specs.Permissions.{IsFirstName, IsPermissionAt, names_at, no_names, resource_permission, url_permission}
 use Rattle.rbac_use.specs.declared.permission.TargetPlaces.{TargetPlaces}
 use Rattle.rbac_use.specs.declared.permission.TargetPlaces.TheVariants.{Resource as AtResource, Url as AtUrl}
 use Rattle.rbac_use.proofs.FirstPlaces.{first_with}

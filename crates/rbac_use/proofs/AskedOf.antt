@@ -1,5 +1,5 @@
 -- What the requests that a binding allows use is what the log uses.
-use Rattle.std.proofs.Common.{get_or, take, ◌++◌, ◌+◌, ◌<◌, ◌≡◌, ◌≢◌, ℕ, ◌↔◌, List, [], ◌∷◌, Option, Some, None, Any, Contains, length, map, slice_get, inl, inr, refl, sym, ap, subst, arith, ◌∙◌, option_map}
+use Rattle.std.proofs.Common.{get_or, take, ◌++◌, ◌+◌, ◌<◌, ◌≡◌, ◌≢◌, ℕ, ◌↔◌, List, [], ◌∷◌, Option, Some, None, Any, Contains, length, slice_get, inl, inr, refl, sym, ap, subst, arith, ◌∙◌, option_map}
 use Rattle.std.proofs.lemmas.List.{take_more}
 use Rattle.std.proofs.lemmas.List.Elements.{Contains-append_left, Contains-push, Contains-push_cases}
 use Rattle.std.proofs.lemmas.Option.{same_Some, slice_get_read, slice_get-map}

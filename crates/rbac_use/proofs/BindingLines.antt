@@ -1,5 +1,5 @@
 -- The lines of one binding after another.
-use Rattle.std.proofs.Common.{◌≡◌, ◌≢◌, ◌≤◌, ◌<◌, ◌↔◌, ◌++◌, [], ◌∷◌, ◌∙◌, ℕ, Bool, List, Some, ap, length, refl, slice_get, subst, sym}
+use Rattle.std.proofs.Common.{◌≡◌, ◌≢◌, ◌≤◌, [], ◌∷◌, ◌∙◌, ℕ, Bool, List, Some, ap, length, refl, slice_get, subst, sym}
 use Rattle.std.proofs.lemmas.Option.{same_Some, slice_get_within}
 use Rattle.rbac_terms.specs.declared.granting.Binding.{Binding}
 use Rattle.rbac_model.specs.Policies.{PolicyView}
@@ -8,7 +8,7 @@ use Rattle.rbac_use.specs.Adding.{AddsLines, OfFirst, OfSome}
 use Rattle.rbac_use.specs.Asked.{AreAskedAt, IsSubjectLine}
 use Rattle.rbac_use.specs.Requests.{log_of}
 use Rattle.rbac_use.specs.Rules.{IsGrantLine}
-use Rattle.rbac_use.specs.Unused.{AreExactly, AreUnused, IsPartLine, IsUnused, IsUnusedAt, IsUnusedPart, Keeps, line_places, part_places}
+use Rattle.rbac_use.specs.Unused.{AreUnused, IsPartLine, IsUnused, IsUnusedAt, Keeps, part_places}
 use Rattle.rbac_use.specs.declared.request.Request.{Request}
 use Rattle.rbac_use.specs.declared.unused.Unused.{Unused}
 use Rattle.rbac_use.proofs.Exact.{added_alone, lines_append, lines_none, lines_same, lines_some}

@@ -1,10 +1,9 @@
 -- When some request can match a rule through a binding.
-use Rattle.std.proofs.Common.{true, false, Bor, IsSome, ◌≡◌, ◌≢◌, ℕ, ◌<◌, ◌⊎◌, ◌↔◌, List, [], ◌∷◌, Option, Some, None, Any, Contains, length, inl, inr, refl, sym, ap, subst, arith}
+use Rattle.std.proofs.Common.{true, false, Bor, IsSome, ◌≡◌, ◌≢◌, ◌⊎◌, List, [], ◌∷◌, Option, Some, None, Any, Contains, length, inl, inr, refl, sym, ap, subst, arith}
 use Rattle.std.specs.Option.{is_some, option_copied}
 use Rattle.rbac_terms.specs.Text.{Text}
 use Rattle.rbac_terms.specs.Targets.{What, Resource, Url, IsProper, IsResourceText}
 use Rattle.rbac_terms.specs.Principals.{Who, AsUser, AsMember, account_user}
-use Rattle.rbac_terms.specs.Granting.{Names}
 use Rattle.rbac_terms.specs.Matching.{NameMatches, ResourceWordMatches, TargetOk, UrlWordMatches, WordMatches}
 use Rattle.rbac_terms.specs.declared.granting.Binding.{Binding}
 use Rattle.rbac_terms.specs.declared.granting.Subject.{Subject}

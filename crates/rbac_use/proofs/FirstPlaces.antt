@@ -1,5 +1,5 @@
 -- The first places of the words of a list.
-use Rattle.std.proofs.Common.{true, false, not, Bool, IsTrue, ◌↔◌, ◌≡◌, ℕ, ◌<◌, List, Option, Some, Any, Contains, get_or, length, slice_get, take, inl, inr, refl, sym, ap, subst, arith, ◌∙◌}
+use Rattle.std.proofs.Common.{true, false, not, Bool, IsTrue, ◌↔◌, ◌≡◌, ℕ, ◌<◌, List, Some, Contains, length, slice_get, take, inl, inr, refl, sym, ap, subst, arith, ◌∙◌}
 use Rattle.std.proofs.lemmas.List.{get_or-take, length-take}
 use Rattle.std.proofs.lemmas.Option.{same_Some, slice_get_read, slice_get_within, get_or_from_slice_get}
 use Rattle.rbac_terms.specs.Text.{Text}

@@ -1,14 +1,13 @@
 -- Nothing that is unused was needed, and the requests alone decide what is unused.
-use Rattle.std.proofs.Common.{◌≡◌, ℕ, ◌↔◌, List, [], ◌∷◌, Option, Some, Any, Bool, Contains, slice_get, refl, sym, ap, subst, ◌∙◌}
+use Rattle.std.proofs.Common.{◌≡◌, ℕ, ◌↔◌, List, [], ◌∷◌, Some, Any, Bool, Contains, slice_get, refl, sym, ap, subst, ◌∙◌}
 use Rattle.std.proofs.lemmas.Option.{same_Some, slice_get_within}
 use Rattle.rbac_terms.specs.Text.{Text}
-use Rattle.rbac_terms.specs.Targets.{What}
 use Rattle.rbac_terms.specs.Granting.{Names}
 use Rattle.rbac_terms.specs.Matching.{RuleAllows}
 use Rattle.rbac_terms.specs.declared.granting.Binding.{Binding}
 use Rattle.rbac_terms.specs.declared.granting.Subject.{Subject as ASubject}
 use Rattle.rbac_model.specs.Lists.{IsAscendingBy}
-use Rattle.rbac_model.specs.Policies.{GrantAllows, GrantView, IsPolicy, PolicyView}
+use Rattle.rbac_model.specs.Policies.{GrantView, IsPolicy, PolicyView}
 use Rattle.rbac_model.proofs.BindingPlaces.{of_some_binding}
 use Rattle.rbac_model.proofs.GrantNumbers.{some_grant}
 use Rattle.rbac_model.proofs.OneList.{one_list}

@@ -1,11 +1,7 @@
 -- The lines of a binding, by the requests that it allows.
-use Rattle.std.proofs.Common.{◌≡◌, ◌≢◌, ℕ, ◌↔◌, ◌⊎◌, List, [], Option, Some, None, slice_get, inl, inr, refl, sym, ap, subst, ◌∙◌}
+use Rattle.std.proofs.Common.{◌≡◌, ◌≢◌, ℕ, ◌↔◌, ◌⊎◌, List, [], Some, None, slice_get, inl, inr, refl, sym, ap, subst, ◌∙◌}
 use Rattle.std.proofs.lemmas.Option.{same_Some}
-use Rattle.rbac_terms.specs.Text.{Text}
-use Rattle.rbac_terms.specs.Targets.{What}
-use Rattle.rbac_terms.specs.Matching.{RuleAllows}
 use Rattle.rbac_terms.specs.declared.granting.Binding.{Binding}
-use Rattle.rbac_terms.specs.declared.granting.Subject.{Subject as ASubject}
 use Rattle.rbac_terms.specs.declared.matching.Rule.{Rule as ARule}
 use Rattle.rbac_model.specs.Policies.{GrantView, PolicyView}
 use Rattle.rbac_model.proofs.OwnWords.{any_weaker}
@@ -23,7 +19,7 @@ use Rattle.rbac_use.specs.declared.request.Request.{Request}
 use Rattle.rbac_use.specs.declared.unused.Part.{Part}
 use Rattle.rbac_use.specs.declared.unused.Part.TheVariants.{Whole, Subject, Rule, Permission}
 use Rattle.rbac_use.specs.declared.unused.Unused.{Unused}
-use Rattle.rbac_use.proofs.AskedOf.{some_used, used, used_by, used_some}
+use Rattle.rbac_use.proofs.AskedOf.{some_used, used, used_by}
 use Rattle.rbac_use.proofs.Words.{permission_within}
 
 -- a line of a binding is the line of its part

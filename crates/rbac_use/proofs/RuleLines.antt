@@ -1,16 +1,14 @@
 -- Where the lines of a rule stand, and that their places are within the rule's lists.
-use Rattle.std.proofs.Common.{arith, ◌≤◌, ◌↔◌, ◌∙◌, ◌≡◌, ℕ, ◌<◌, ◌⊎◌, List, [], ◌∷◌, ◌++◌, Option, Some, None, length, slice_get, inl, inr, refl, sym, ap, subst}
+use Rattle.std.proofs.Common.{arith, ◌≤◌, ◌↔◌, ◌∙◌, ◌≡◌, ℕ, ◌<◌, List, [], ◌∷◌, ◌++◌, Option, Some, None, length, inl, inr, refl, sym, ap, subst}
 use Rattle.std.proofs.lemmas.Option.{same_Some, slice_get_within}
-use Rattle.rbac_terms.specs.Text.{Text}
 use Rattle.rbac_use.specs.Adding.{AddsLines, OfFirst, OfSome, line_at}
 use Rattle.rbac_use.specs.Asked.{IsAskedBy}
 use Rattle.rbac_use.specs.Rules.{IsGrantLine, IsGroupLine, IsNameLine, IsPermissionLine, IsResourceLine, IsRuleLine, IsUrlLine, IsVerbLine, UseView, grant_use}
 use Rattle.rbac_use.specs.Unused.{line_places}
-use Rattle.rbac_use.specs.declared.permission.TargetPlaces.{TargetPlaces}
-use Rattle.rbac_use.specs.declared.permission.TargetPlaces.TheVariants.{Resource, Url}
+use Rattle.rbac_use.specs.declared.permission.TargetPlaces.TheVariants.{Resource}
 use Rattle.rbac_use.specs.Used.{CanBeUsed, IsGrantOf}
 use Rattle.rbac_use.specs.declared.request.Request.{Request}
-use Rattle.rbac_use.specs.declared.unused.Part.TheVariants.{Permission, Rule}
+use Rattle.rbac_use.specs.declared.unused.Part.TheVariants.{Rule}
 use Rattle.rbac_use.specs.declared.unused.Unused.{Unused}
 use Rattle.rbac_model.specs.Policies.{GrantView, IsOfBinding, PolicyView}
 use Rattle.rbac_use.proofs.Exact.{lines_append, lines_none, lines_one, lines_same, lines_some}

@@ -1,5 +1,5 @@
 -- The words of a permission are words of its rule.
-use Rattle.std.proofs.Common.{◌≡◌, ℕ, ◌<◌, List, [], ◌∷◌, Option, Some, None, Any, Contains, get_or, length, slice_get, inl, inr, refl, sym, ap, subst, arith, zero, suc, ◌∙◌, option_map}
+use Rattle.std.proofs.Common.{◌≡◌, ℕ, ◌<◌, List, [], ◌∷◌, Option, Some, None, Any, Contains, get_or, length, slice_get, inl, inr, refl, sym, subst, arith, zero, suc, option_map}
 use Rattle.std.specs.Prelude.{option_and_then}
 use Rattle.std.proofs.lemmas.Option.{same_Some, slice_get_within, get_or_from_slice_get}
 use Rattle.rbac_terms.specs.Text.{Text}

@@ -8,6 +8,8 @@ mod line;
 mod permission;
 mod request;
 mod rules;
+#[cfg(test)]
+mod tests;
 mod unused;
 mod usable;
 

@@ -1,4 +1,4 @@
-use Rattle.std.proofs.Common.{◌≡◌, ◌++◌, ◌∷◌, [], List, refl, subst, sym, take, take_all}
+use Rattle.std.proofs.Common.{◌≡◌, ◌++◌, ◌∷◌, [], List, subst, take, take_all}
 use Rattle.std.proofs.lemmas.Bool.{both_ways}
 use Rattle.rbac_use.specs.Asked.{AreAskedAt}
 use Rattle.rbac_use.specs.declared.request.Request.{Request}

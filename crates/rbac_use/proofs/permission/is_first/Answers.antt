@@ -1,5 +1,4 @@
-use Rattle.std.proofs.Common.{◌≡◌, Contains, Some, arith, false, refl, slice_get, sym, take, true}
-use Rattle.std.proofs.lemmas.Bool.{both_ways}
+use Rattle.std.proofs.Common.{◌≡◌, Some, refl, slice_get}
 use Rattle.std.proofs.lemmas.Option.{slice_get_read}
 use Rattle.rbac_use.proofs.FirstPlaces.{first_by_test}
 use Rattle.rbac_use.proofs.permission.is_first.Goals as goal

@@ -1,8 +1,6 @@
-use Rattle.std.proofs.Common.{◌≤◌, [], ap, arith, length, subst, sym}
-use Rattle.rbac_use.specs.Adding.{AddsLines, OfFirst}
+use Rattle.std.proofs.Common.{◌≤◌, [], ap, arith, length}
 use Rattle.rbac_use.specs.Requests.{log_of}
 use Rattle.rbac_use.specs.Unused.{IsUnusedAt}
-use Rattle.rbac_use.specs.declared.unused.Unused.{Unused}
 use Rattle.rbac_use.proofs.BindingLines.{all_unused, binding_stands}
 use Rattle.rbac_use.proofs.Exact.{lines_start}
 use Rattle.rbac_use.proofs.Places.{more_at}
