@@ -5,6 +5,7 @@ pub mod CanMatch
 pub mod Exact
 pub mod FirstPlaces
 pub mod Grants
+pub mod Logged
 pub mod Needed
 pub mod PartLines
 pub mod Places

@@ -5,6 +5,7 @@ mod asked;
 mod bindings;
 mod laws;
 mod line;
+mod log;
 mod permission;
 mod request;
 mod rules;
@@ -15,6 +16,6 @@ mod usable;
 
 pub use laws::{unused_lines_are_one, what_is_unused_isnt_needed};
 pub use line::put_unused;
+pub use log::Log;
 pub use permission::TargetPlaces;
-pub use request::Request;
 pub use unused::{Part, Unused, unused_lines};

@@ -1,6 +1,6 @@
 //! What is unused of a small policy, by several logs.
 
-use crate::{Request, put_unused, unused_lines};
+use crate::{Log, put_unused, unused_lines};
 use rbac_model::{Object, Objects, Policy};
 use rbac_terms::{
     Binding, ClusterRole, Labels, Principal, Role, RoleRef, Rule, Rules, Subject, Subjects, Target,
@@ -240,26 +240,7 @@ fn policy(rt: &impl Abort, alloc: Global) -> Policy {
     built(rt, Policy::resolve(alloc, objects))
 }
 
-// A request with the parts that it is lent.
-struct Parts {
-    who: Principal,
-    namespace: Word,
-    verb: Word,
-    target: Target,
-}
-
-impl Drop for Parts {
-    fn drop(self) {
-        let Self {
-            who,
-            namespace,
-            verb,
-            target,
-        } = self;
-    }
-}
-
-fn parts_of(rt: &impl Abort, alloc: Global, row: &RequestRow<'_>) -> Parts {
+fn add(rt: &impl Abort, alloc: Global, log: &mut Log, row: &RequestRow<'_>) {
     let mut groups = Words::new(alloc);
     if row[1] != "-" {
         groups = words(rt, alloc, &[row[1]]);
@@ -270,38 +251,24 @@ fn parts_of(rt: &impl Abort, alloc: Global, row: &RequestRow<'_>) -> Parts {
     } else {
         Target::resource(word(rt, alloc, row[4]), text, word(rt, alloc, row[6]))
     };
-    Parts {
-        who: built(
-            rt,
-            Principal::user(alloc, &word(rt, alloc, row[0]), &groups),
-        ),
-        namespace: word(rt, alloc, row[2]),
-        verb: word(rt, alloc, row[3]),
-        target: built(rt, target),
-    }
+    let who = built(
+        rt,
+        Principal::user(alloc, &word(rt, alloc, row[0]), &groups),
+    );
+    let namespace = word(rt, alloc, row[2]);
+    let verb = word(rt, alloc, row[3]);
+    built(rt, log.add(who, namespace, verb, built(rt, target)));
 }
 
-// The printed lines, with spaces for tabs.
+// The printed lines, with spaces for tabs. Each request is logged twice.
 fn printed(rt: &impl Abort, alloc: Global, rows: &[RequestRow<'_>], skip_system: bool) -> Vec<u8> {
     let policy = policy(rt, alloc);
-    let mut all = Vec::new(alloc);
+    let mut log = Log::new(alloc);
     for row in rows {
-        built(rt, all.push(parts_of(rt, alloc, row)));
+        add(rt, alloc, &mut log, row);
+        add(rt, alloc, &mut log, row);
     }
-    let mut requests = Vec::new(alloc);
-    for one in &all {
-        let request = Request {
-            who: &one.who,
-            namespace: &one.namespace,
-            verb: &one.verb,
-            target: &one.target,
-        };
-        built(rt, requests.push(request));
-    }
-    let found = built(
-        rt,
-        unused_lines(alloc, &policy, requests.as_slice(), skip_system),
-    );
+    let found = built(rt, unused_lines(alloc, &policy, &log, skip_system));
     let mut text = Vec::new(alloc);
     for unused in &found {
         built(rt, put_unused(alloc, &mut text, &policy, *unused));

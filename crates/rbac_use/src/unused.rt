@@ -8,6 +8,7 @@ ghost use Rattle.rbac_use.specs.Requests.{log_of};
 ghost use Rattle.rbac_use.specs.Unused.{AreUnused, IsUnusedAt, Keeps};
 
 use crate::bindings::add_of_binding;
+use crate::log::Log;
 use crate::permission::TargetPlaces;
 use crate::request::Request;
 use rbac_model::Policy;
@@ -47,7 +48,7 @@ pub struct Unused {
     pub part: Part,
 }
 
-/// What of the policy none of these requests uses (own). A permission of a binding is a rule of its
+/// What of the policy none of the log's requests uses (own). A permission of a binding is a rule of its
 /// role with one word of each list; it is used if it allows one of the requests through the
 /// binding. Each unused permission that some request can match has one line, the coarsest one that
 /// is true: of the binding, if none of its permissions is used; of the rule; or of the permission.
@@ -57,6 +58,20 @@ pub struct Unused {
 /// object names. `skip_system` leaves out the bindings whose names begin with `system:`. Fails only
 /// if it runs out of memory.
 pub fn unused_lines(
+    alloc: Global,
+    policy: &Policy,
+    log: &Log,
+    skip_system: bool,
+) -> Result<Vec<Unused>, AllocError>
+    ensures unused { IfOk result (λ found. AreUnused policy.now log.now skip_system found.items) }
+    ensures policy { IfOk result (λ _. IsPolicy policy.now) }
+{
+    let requests = log.requests(alloc)?;
+    lines_of(alloc, policy, requests.as_slice(), skip_system)
+}
+
+// What of the policy none of these requests uses.
+fn lines_of(
     alloc: Global,
     policy: &Policy,
     requests: &[Request<'_>],
