@@ -11,12 +11,12 @@ use Rattle.rbac_model.specs.Policies.{GrantView, IsPolicy, PolicyView}
 use Rattle.rbac_model.proofs.BindingPlaces.{of_some_binding}
 use Rattle.rbac_model.proofs.GrantNumbers.{some_grant}
 use Rattle.rbac_model.proofs.OneList.{one_list}
-use Rattle.rbac_model.proofs.OwnWords.{any_from}
+use Rattle.rbac_model.proofs.OwnWords.{any_from, any_weaker}
 use Rattle.rbac_diff.specs.Requests.{AllowsRequest, RequestView}
 use Rattle.rbac_terms.specs.declared.matching.Rule.{Rule as ARule}
 use Rattle.rbac_use.specs.Adding.{line_at}
 use Rattle.rbac_use.specs.Permissions.{IsPermissionAt, permission_at}
-use Rattle.rbac_use.specs.Rest.{IsAllowedByRest}
+use Rattle.rbac_use.specs.Rest.{HasUsedPermission, IsAllowedByRest}
 use Rattle.rbac_use.specs.Unused.{AreUnused, IsUnusedPart, line_places}
 use Rattle.rbac_use.specs.Used.{AllowsThrough, CountsFor, IsAllowedAt, IsGrantOf, IsUsed, IsUsedAt}
 use Rattle.rbac_use.specs.declared.permission.TargetPlaces.{TargetPlaces}
@@ -25,6 +25,7 @@ use Rattle.rbac_use.specs.declared.unused.Part.TheVariants.{Whole, Subject, Rule
 use Rattle.rbac_use.specs.declared.unused.Unused.{Unused}
 use Rattle.rbac_use.proofs.Allowing.{allowing_permission}
 use Rattle.rbac_use.proofs.AskedOf.{read_contains}
+use Rattle.rbac_use.proofs.Words.{permission_within}
 
 module _ (p : PolicyView) (log : List RequestView) (skip_system : Bool) (xs : List Unused) (are : AreUnused p log skip_system xs) (r : RequestView) (logged : Contains log r) where
   -- a part that isn't unused has no line
@@ -143,3 +144,18 @@ one_list_of_lines p log other skip_system xs others same a b =
     one_list line_name xs others (ascending p log skip_system xs a) (ascending p other skip_system others b)
     (λ x w. (let h = (a.exact x).0 w in (b.exact x).1 (h.0, same_part p log other forth back x.binding x.part h.1)))
     (λ x w. (let h = (b.exact x).0 w in (a.exact x).1 (h.0, same_part p other log back forth x.binding x.part h.1)))
+
+-- ---- a rule is used by its permissions
+
+used_permission : (log : List RequestView) (b : Binding) (rule : ARule) → IsUsed log b rule → HasUsedPermission log b rule
+used_permission log b rule w =
+    let q = allowing_permission rule w.1.verb w.1.target w.4.1 in
+    let used : IsUsed log b q.permission = (w.0, w.1, w.2, w.3, (w.4.0, q.allows)) in
+    (q.verb, q.target, q.permission, q.is, used)
+
+permission_used : (log : List RequestView) (b : Binding) (rule : ARule) → HasUsedPermission log b rule → IsUsed log b rule
+permission_used log b rule (verb, target, permission, is, used) =
+    any_weaker (AllowsThrough b permission) (AllowsThrough b rule) log (λ r a. (a.0, permission_within rule permission verb r.verb target r.target is.1 a.1)) used
+
+pub by_permissions : (log : List RequestView) (b : Binding) (rule : ARule) → IsUsed log b rule ↔ HasUsedPermission log b rule
+by_permissions log b rule = (used_permission log b rule, permission_used log b rule)

@@ -14,7 +14,7 @@ mod tests;
 mod unused;
 mod usable;
 
-pub use laws::{unused_lines_are_one, what_is_unused_isnt_needed};
+pub use laws::{rules_are_used_by_permissions, unused_lines_are_one, what_is_unused_isnt_needed};
 pub use line::put_unused;
 pub use log::Log;
 pub use permission::TargetPlaces;

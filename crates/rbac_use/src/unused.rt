@@ -48,8 +48,8 @@ pub struct Unused {
     pub part: Part,
 }
 
-/// What of the policy none of the log's requests uses (own). A permission of a binding is a rule of its
-/// role with one word of each list; it is used if it allows one of the requests through the
+/// What of the policy none of the log's requests uses (own). A permission of a binding is a rule of
+/// its role with one word of each list; it is used if it allows one of the requests through the
 /// binding. Each unused permission that some request can match has one line, the coarsest one that
 /// is true: of the binding, if none of its permissions is used; of the rule; or of the permission.
 /// A subject has a line if the binding is used, but by nobody whom the subject names. Lines are in
