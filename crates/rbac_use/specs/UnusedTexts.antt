@@ -1,5 +1,5 @@
 -- How lines of unused parts are printed (own).
-use Rattle.std.specs.Prelude.{◌<◌, ℕ, [], ◌∷◌, ◌++◌, List, Option, Some, None, codes, length}
+use Rattle.std.specs.Prelude.{ℕ, [], ◌∷◌, ◌++◌, List, Option, Some, None, codes}
 use Rattle.std.specs.Prelude.{option_and_then, option_map, slice_get, unwrap_or}
 use Rattle.rbac_terms.specs.Text.{Text}
 use Rattle.rbac_terms.specs.Granting.{subject_principal}
@@ -82,17 +82,11 @@ abbrev pub role_text : Binding → Text
 role_text b = binding_text b ++ tab ∷ named_text b.namespace b.role ++ tab ∷ []
 
 -- a line of ten fields
-abbrev pub unused_text : PolicyView → Unused → Binding → Text
-unused_text p x b = field_and_tab (part_word x.part) ++ role_text b ++ part_text p b x.part
+abbrev pub unused_text : PolicyView → Part → Binding → Text
+unused_text p part b = field_and_tab (part_word part) ++ role_text b ++ part_text p b part
     ++ newline ∷ []
 
 -- the line of an unused part
 abbrev pub unused_line : PolicyView → Unused → Text
-unused_line p x = unwrap_or (option_map (unused_text p x) (slice_get p.held.bindings x.binding)) []
-
--- the grant of a part is one of the policy
-abbrev pub HasItsGrant : PolicyView → Part → Type 0
-HasItsGrant p Whole = Unit {0}
-HasItsGrant p (Subject i) = Unit {0}
-HasItsGrant p (Rule n) = n < length p.grants
-HasItsGrant p (Permission n verb target) = n < length p.grants
+unused_line p x = unwrap_or (option_map (unused_text p x.part)
+    (slice_get p.held.bindings x.binding)) []

@@ -1,11 +1,12 @@
 //! How an unused part is printed.
 
-ghost use Rattle.std.specs.Prelude.{◌≡◌, ◌++◌, ◌<◌, [], OnOk, length, option_copied};
+ghost use Rattle.std.specs.Prelude.{◌≡◌, ◌++◌, [], OnOk, option_copied};
 ghost use Rattle.rbac_model.specs.Sources.{grant_of, source_of};
 ghost use Rattle.rbac_text.specs.Choice.{choice_text};
 ghost use Rattle.rbac_text.specs.Row.{field_and_tab};
 ghost use Rattle.rbac_text.specs.Why.{cluster_role_text, named_text, source_text};
-ghost use Rattle.rbac_use.specs.UnusedTexts.{HasItsGrant, key_at, name_at, part_text, part_word};
+ghost use Rattle.rbac_use.specs.UnusedTexts.{key_at, name_at, no_pair, no_target, of_grant};
+ghost use Rattle.rbac_use.specs.UnusedTexts.{part_text, part_word, unused_text};
 ghost use Rattle.rbac_use.specs.UnusedTexts.{role_text, rule_text, subject_text, target_text};
 ghost use Rattle.rbac_use.specs.UnusedTexts.{unused_line, word_at, words_text};
 
@@ -43,22 +44,37 @@ impl Part {
 /// The fields are the part's word; its binding and the role that this names; the role where the
 /// rule is written and the rule's place there; the subject's place and the key of whom it stands
 /// for, or nothing and the verb; and the API group, the resource or URL, and the object name, `*`
-/// for any. Places are printed as counted from 1; what a part doesn't have is empty. If it runs out
-/// of memory, a prefix of the line may have been added.
+/// for any. Places are printed as counted from 1; what a part doesn't have is empty. Of a binding or
+/// a grant that the policy doesn't have, nothing is printed. If it runs out of memory, a prefix of
+/// the line may have been added.
 pub fn put_unused(
     alloc: Global,
     line: &mut Vec<u8>,
     policy: &Policy,
     unused: Unused,
 ) -> Result<(), AllocError>
-    requires binding { unused.binding < length policy.now.held.bindings }
-    requires grant { HasItsGrant policy.now unused.part }
     ensures { OnOk result (line.new.items ≡ line.old.items ++ unused_line policy.now unused) }
 {
-    let binding = &policy.bindings()[unused.binding];
-    put_field_and_tab(line, unused.part.word())?;
+    let Some(binding) = policy.bindings().get(unused.binding) else {
+        return Ok(());
+    };
+    put_line(alloc, line, policy, binding, unused.part)
+}
+
+// Adds the line of this part of a binding.
+fn put_line(
+    alloc: Global,
+    line: &mut Vec<u8>,
+    policy: &Policy,
+    binding: &Binding,
+    part: Part,
+) -> Result<(), AllocError>
+    ensures { OnOk result (line.new.items
+        ≡ line.old.items ++ unused_text policy.now part binding.now) }
+{
+    put_field_and_tab(line, part.word())?;
     put_named_binding(alloc, line, binding)?;
-    put_part(alloc, line, policy, binding, unused.part)?;
+    put_part(alloc, line, policy, binding, part)?;
     line.push(b'\n')?;
     Ok(())
 }
@@ -104,7 +120,6 @@ fn put_part(
     binding: &Binding,
     part: Part,
 ) -> Result<(), AllocError>
-    requires { HasItsGrant policy.now part }
     ensures { OnOk result (line.new.items
         ≡ line.old.items ++ part_text policy.now binding.now part) }
 {
@@ -119,17 +134,49 @@ fn put_part(
             put_subject(alloc, line, binding, place)?;
             line.extend_from_slice(NO_TARGET)
         }
-        Part::Rule(number) => {
-            put_rule_place(alloc, line, policy.grant(number))?;
-            line.extend_from_slice(NO_PAIR)?;
-            line.extend_from_slice(NO_TARGET)
-        }
+        Part::Rule(number) => put_rule(alloc, line, policy, number),
         Part::Permission {
             number,
             verb,
             target,
-        } => put_permission(alloc, line, policy.grant(number), verb, target),
+        } => put_words(alloc, line, policy, number, verb, target),
     }
+}
+
+// Adds the fields of a rule, if the policy has the grant with this number.
+fn put_rule(
+    alloc: Global,
+    line: &mut Vec<u8>,
+    policy: &Policy,
+    number: u32,
+) -> Result<(), AllocError>
+    ensures { OnOk result (line.new.items ≡ line.old.items
+        ++ of_grant policy.now number (λ g. rule_text g ++ no_pair ++ no_target)) }
+{
+    if policy.len() <= number {
+        return Ok(());
+    }
+    put_rule_place(alloc, line, policy.grant(number))?;
+    line.extend_from_slice(NO_PAIR)?;
+    line.extend_from_slice(NO_TARGET)
+}
+
+// Adds the fields of a permission, if the policy has the grant with this number.
+fn put_words(
+    alloc: Global,
+    line: &mut Vec<u8>,
+    policy: &Policy,
+    number: u32,
+    verb: usize,
+    target: TargetPlaces,
+) -> Result<(), AllocError>
+    ensures { OnOk result (line.new.items ≡ line.old.items ++ of_grant policy.now number
+        (λ g. rule_text g ++ field_and_tab [] ++ words_text g.rule.rule verb target)) }
+{
+    if policy.len() <= number {
+        return Ok(());
+    }
+    put_permission(alloc, line, policy.grant(number), verb, target)
 }
 
 // Adds the place of a subject, and the key of whom it stands for.
