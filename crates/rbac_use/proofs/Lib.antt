@@ -1,0 +1,14 @@
+pub mod Allowing
+pub mod AskedOf
+pub mod BindingLines
+pub mod CanMatch
+pub mod Exact
+pub mod FirstPlaces
+pub mod Grants
+pub mod Logged
+pub mod Needed
+pub mod PartLines
+pub mod Places
+pub mod RuleLines
+pub mod SubjectLines
+pub mod Words

@@ -1,0 +1,11 @@
+pub mod Adding
+pub mod Asked
+pub mod Logs
+pub mod Permissions
+pub mod Requests
+pub mod Rest
+pub mod Rules
+pub mod Unused
+pub mod UnusedTexts
+pub mod Usable
+pub mod Used

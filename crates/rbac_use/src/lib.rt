@@ -1,0 +1,21 @@
+//! Which permissions of which bindings a set of requests uses.
+#![tactic(auto)]
+
+mod asked;
+mod bindings;
+mod laws;
+mod line;
+mod log;
+mod permission;
+mod request;
+mod rules;
+#[cfg(test)]
+mod tests;
+mod unused;
+mod usable;
+
+pub use laws::{rules_are_used_by_permissions, unused_lines_are_one, what_is_unused_isnt_needed};
+pub use line::put_unused;
+pub use log::Log;
+pub use permission::TargetPlaces;
+pub use unused::{Part, Unused, unused_lines};
