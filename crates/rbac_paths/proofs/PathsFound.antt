@@ -29,7 +29,7 @@ in_order names up k d low high =
     let less = Less-from_sorted text_cmp names k (k + 1) d up (omega arith) high in
     ap is_lt (nat_list_cmp_total.antisymm (get_or names (k + 1) d) (get_or names k d) ∙ ap ordering_reverse less)
 
-module _ (p : PolicyView) (ok : IsPolicy p) (all : List Who) (listed names : List Text) (bound : AreBoundNames p.held listed names) (ys : List NodeView) (are : AreNodes p all listed names ys) where
+module _ (p : PolicyView) (ok : IsPolicy p) (all : List Who) (listed names : List Text) (ys : List NodeView) (are : AreNodes p all listed names ys) where
   its_role : (y : NodeView) → IsNode p all y → HasItsRole p.held y
   its_role (Somebody who) is = tt
   its_role (ClusterRoleIn role scope) is = is.0
@@ -47,7 +47,7 @@ module _ (p : PolicyView) (ok : IsPolicy p) (all : List Who) (listed names : Lis
       let y = get_or ys k d in
       its_role y ((are.exact y).0 (k, low, get_or_default ys k y d low)).0
 
-  module _ (steps : List Step) where
+  module _ (steps : List Step) (bound : AreBoundNames steps p.held listed names) where
     pub named : (x y : NodeView) → IsNode p all x → IsNode p all y → TakesOver p steps x y → IsNamedOf listed names y
     named x (Somebody who) is node takes = tt
     named x (ClusterRoleIn role scope) is node takes = (bound.of_rules role.name).1 (cluster_role_bound p ok steps x (own_role x is) takes.0 role scope takes.1)

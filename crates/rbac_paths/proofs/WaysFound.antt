@@ -23,7 +23,7 @@ use Rattle.rbac_paths.proofs.GraphWays.{IsGraphBy, among, at_low, before, fewest
 use Rattle.rbac_paths.proofs.PathsFound.{named}
 use Rattle.rbac_paths.proofs.Tracing.{is_here, matched, matched_none, matched_some}
 
-module _ (p : PolicyView) (ok : IsPolicy p) (all : List Who) (listed names : List Text) (bound : AreBoundNames p.held listed names) (ys : List NodeView) (are : AreNodes p all listed names ys) (steps : List Step) (asked : AccessView) where
+module _ (p : PolicyView) (ok : IsPolicy p) (all : List Who) (listed names : List Text) (ys : List NodeView) (are : AreNodes p all listed names ys) (steps : List Step) (bound : AreBoundNames steps p.held listed names) (asked : AccessView) where
   abbrev Goes : NodeView → NodeView → Type 0
   Goes x y = GoesTo p all steps x y
 
@@ -38,7 +38,7 @@ module _ (p : PolicyView) (ok : IsPolicy p) (all : List Who) (listed names : Lis
 
   -- each node that a listed node takes over is listed
   closed : (x y : NodeView) → Contains ys x → Goes x y → Contains ys y
-  closed x y c goes = (are.exact y).1 (goes.0, named p ok all listed names bound ys are steps x y (is_node x c) goes.0 goes.1)
+  closed x y c goes = (are.exact y).1 (goes.0, named p ok all listed names ys are steps bound x y (is_node x c) goes.0 goes.1)
 
   -- ---- the search from users and groups
 

@@ -102,7 +102,7 @@ pub fn paths<'p>(
     let rows = rows_of_steps(alloc, steps)?;
     let rows = rows.as_slice();
     let all = principals_with(alloc, principals, who)?;
-    let names = bound_names(alloc, policy)?;
+    let names = bound_names(alloc, policy, steps)?;
     let listed = names.listed.as_slice();
     let names = names.all.as_slice();
     let nodes = nodes_of(alloc, policy, all.as_slice(), listed, names)?;

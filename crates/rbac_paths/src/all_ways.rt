@@ -110,7 +110,7 @@ pub fn ways_to<'p>(
     let rows = rows_of_steps(alloc, steps)?;
     let rows = rows.as_slice();
     let all = each_of(alloc, principals)?;
-    let names = bound_names(alloc, policy)?;
+    let names = bound_names(alloc, policy, steps)?;
     let listed = names.listed.as_slice();
     let names = names.all.as_slice();
     let nodes = nodes_of(alloc, policy, all.as_slice(), listed, names)?;

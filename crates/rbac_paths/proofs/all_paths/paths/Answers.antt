@@ -53,7 +53,7 @@ graph_of-requires-clause-held c =
     let are = subst (λ (ns : List Node). AreNodes p all listed names (map node_of ns)) (sym c.as_slice-nodes.ensures.value)
     (subst (λ (ts : List Text). AreNodes p all listed ts (map node_of c.in_ok-nodes.nodes.items)) c.as_slice-names.ensures.value
     (subst (λ (ts : List Text). AreNodes p all ts c.as_slice-names.result.now (map node_of c.in_ok-nodes.nodes.items)) c.as_slice-listed.ensures.value c.in_ok-nodes.ensures)) in
-    held p c.in_ok-names.ensures.policy all listed names c.in_ok-names.ensures.names ys are
+    held p c.in_ok-names.ensures.policy all listed names ys are
 
 pub paths_by-requires-clause-held : goal.paths_by-requires-clause-held
 paths_by-requires-clause-held c =
@@ -65,7 +65,7 @@ paths_by-requires-clause-held c =
     let are = subst (λ (ns : List Node). AreNodes p all listed names (map node_of ns)) (sym c.as_slice-nodes.ensures.value)
     (subst (λ (ts : List Text). AreNodes p all listed ts (map node_of c.in_ok-nodes.nodes.items)) c.as_slice-names.ensures.value
     (subst (λ (ts : List Text). AreNodes p all ts c.as_slice-names.result.now (map node_of c.in_ok-nodes.nodes.items)) c.as_slice-listed.ensures.value c.in_ok-nodes.ensures)) in
-    held p c.in_ok-names.ensures.policy all listed names c.in_ok-names.ensures.names ys are
+    held p c.in_ok-names.ensures.policy all listed names ys are
 
 pub paths_by-requires-clause-grants : goal.paths_by-requires-clause-grants
 paths_by-requires-clause-grants c = c.in_ok-made.ensures.grants
@@ -93,7 +93,7 @@ paths_by-requires-clause-linked c =
     let graph = subst (λ (ss : List Step). IsGraphOf p ss ys g) rows c.in_ok-made.ensures.graph in
     let found = subst (λ (js : List ℕ). AreStops g js stops) c.as_slice-2.ensures.value c.in_ok-reached.ensures.stops in
     subst (λ (ss : List Step). AreLinked p ss ys stops) (sym rows)
-    (linked p c.in_ok-names.ensures.policy all listed names c.in_ok-names.ensures.names ys are steps c.args.principals.now who exact g graph starts c.in_ok-starts.ensures stops found)
+    (linked p c.in_ok-names.ensures.policy all listed names ys are steps c.in_ok-names.ensures.names c.args.principals.now who exact g graph starts c.in_ok-starts.ensures stops found)
 
 pub returns : goal.returns
 returns c =
@@ -119,7 +119,7 @@ returns c =
     (λ made is. (
       all,
       exact,
-      are_paths p c.in_ok-names.ensures.policy all listed names c.in_ok-names.ensures.names ys are steps c.args.principals.now who exact g graph starts c.in_ok-starts.ensures stops found order c.in_ok-reached.ensures.order made.items
+      are_paths p c.in_ok-names.ensures.policy all listed names ys are steps c.in_ok-names.ensures.names c.args.principals.now who exact g graph starts c.in_ok-starts.ensures stops found order c.in_ok-reached.ensures.order made.items
           (subst (λ (ss : List Step). ArePathsAt p ss ys stops order made.items) rows is),
     ))
     c.paths_by.ensures

@@ -57,13 +57,12 @@ graph_of-requires-clause-held c =
     let ok = c.in_ok-names.ensures.policy in
     let listed = c.in_ok-names.names.listed.items in
     let names = c.in_ok-names.names.all.items in
-    let bound = c.in_ok-names.ensures.names in
     let all = map (λ (who : Bor Who). who.now) c.as_slice.result.now in
     let ys = map node_of c.as_slice-nodes.result.now in
     let are = subst (λ (ns : List Node). AreNodes p all listed names (map node_of ns)) (sym c.as_slice-nodes.ensures.value)
     (subst (λ (ts : List Text). AreNodes p all listed ts (map node_of c.in_ok-nodes.nodes.items)) c.as_slice-names.ensures.value
     (subst (λ (ts : List Text). AreNodes p all ts c.as_slice-names.result.now (map node_of c.in_ok-nodes.nodes.items)) c.as_slice-listed.ensures.value c.in_ok-nodes.ensures)) in
-    held p ok all listed names bound ys are
+    held p ok all listed names ys are
 
 pub places_of_allowing-requires-clause-held : goal.places_of_allowing-requires-clause-held
 places_of_allowing-requires-clause-held c =
@@ -71,13 +70,12 @@ places_of_allowing-requires-clause-held c =
     let ok = c.in_ok-names.ensures.policy in
     let listed = c.in_ok-names.names.listed.items in
     let names = c.in_ok-names.names.all.items in
-    let bound = c.in_ok-names.ensures.names in
     let all = map (λ (who : Bor Who). who.now) c.as_slice.result.now in
     let ys = map node_of c.as_slice-nodes.result.now in
     let are = subst (λ (ns : List Node). AreNodes p all listed names (map node_of ns)) (sym c.as_slice-nodes.ensures.value)
     (subst (λ (ts : List Text). AreNodes p all listed ts (map node_of c.in_ok-nodes.nodes.items)) c.as_slice-names.ensures.value
     (subst (λ (ts : List Text). AreNodes p all ts c.as_slice-names.result.now (map node_of c.in_ok-nodes.nodes.items)) c.as_slice-listed.ensures.value c.in_ok-nodes.ensures)) in
-    held p ok all listed names bound ys are
+    held p ok all listed names ys are
 
 pub ways_by-requires-clause-held : goal.ways_by-requires-clause-held
 ways_by-requires-clause-held c =
@@ -85,13 +83,12 @@ ways_by-requires-clause-held c =
     let ok = c.in_ok-names.ensures.policy in
     let listed = c.in_ok-names.names.listed.items in
     let names = c.in_ok-names.names.all.items in
-    let bound = c.in_ok-names.ensures.names in
     let all = map (λ (who : Bor Who). who.now) c.as_slice.result.now in
     let ys = map node_of c.as_slice-nodes.result.now in
     let are = subst (λ (ns : List Node). AreNodes p all listed names (map node_of ns)) (sym c.as_slice-nodes.ensures.value)
     (subst (λ (ts : List Text). AreNodes p all listed ts (map node_of c.in_ok-nodes.nodes.items)) c.as_slice-names.ensures.value
     (subst (λ (ts : List Text). AreNodes p all ts c.as_slice-names.result.now (map node_of c.in_ok-nodes.nodes.items)) c.as_slice-listed.ensures.value c.in_ok-nodes.ensures)) in
-    held p ok all listed names bound ys are
+    held p ok all listed names ys are
 
 pub ways_by-requires-clause-grants : goal.ways_by-requires-clause-grants
 ways_by-requires-clause-grants c = c.in_ok-made.ensures.grants
@@ -120,7 +117,7 @@ ways_by-requires-clause-linked c =
     let stops = c.in_ok-reached.reached.stops.items in
     let found = subst (λ (js : List ℕ). AreStops back js stops) c.as_slice-3.ensures.value c.in_ok-reached.ensures.stops in
     let rows : c.as_slice-rows.result.now ≡ steps = c.as_slice-rows.ensures.value ∙ c.in_ok-rows.ensures in
-    subst (λ (ss : List Step). AreLinkedOn p ss ys stops) (sym rows) (linked_on p ok all listed names bound ys are steps asked g graph back c.in_ok-back.ensures.nodes c.in_ok-back.ensures.edges ends c.in_ok-ends.ensures stops found)
+    subst (λ (ss : List Step). AreLinkedOn p ss ys stops) (sym rows) (linked_on p ok all listed names ys are steps bound asked g graph back c.in_ok-back.ensures.nodes c.in_ok-back.ensures.edges ends c.in_ok-ends.ensures stops found)
 
 pub ways_by-requires-clause-ends : goal.ways_by-requires-clause-ends
 ways_by-requires-clause-ends c =
@@ -142,7 +139,7 @@ ways_by-requires-clause-ends c =
     let ends = c.in_ok-ends.ends.items in
     let stops = c.in_ok-reached.reached.stops.items in
     let found = subst (λ (js : List ℕ). AreStops back js stops) c.as_slice-3.ensures.value c.in_ok-reached.ensures.stops in
-    ends_allow p ok all listed names bound ys are steps asked g graph back c.in_ok-back.ensures.nodes c.in_ok-back.ensures.edges ends c.in_ok-ends.ensures stops found
+    ends_allow p ok all listed names ys are steps bound asked g graph back c.in_ok-back.ensures.nodes c.in_ok-back.ensures.edges ends c.in_ok-ends.ensures stops found
 
 pub returns : goal.returns
 returns c =
@@ -174,7 +171,7 @@ returns c =
     (λ made is. (
       all,
       λ who. (subst (λ (ps : List Who). Contains ps who) same, subst (λ (ps : List Who). Contains ps who) (sym same)),
-      are_ways p ok all listed names bound ys are steps asked g graph back c.in_ok-back.ensures.nodes c.in_ok-back.ensures.edges ends c.in_ok-ends.ensures stops found starts c.in_ok-starts.ensures come met order
+      are_ways p ok all listed names ys are steps bound asked g graph back c.in_ok-back.ensures.nodes c.in_ok-back.ensures.edges ends c.in_ok-ends.ensures stops found starts c.in_ok-starts.ensures come met order
           c.in_ok-reached.ensures.order made.items
           (subst (λ (ss : List (Option Stop)). AreWaysAt p steps asked ys ss stops order made.items) c.as_slice-come.ensures.value
           (subst (λ (ss : List Step). AreWaysAt p ss asked ys c.as_slice-come.result.now stops order made.items) rows is)),
