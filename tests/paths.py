@@ -78,6 +78,9 @@ class World:
         words = [word.partition('.') for word in some(draw, row.types)]
         drawn = {'verbs': self.words(some(draw, row.verbs), VERBS), 'apiGroups': self.words([group for _, _, group in words], GROUPS),
                  'resources': self.words([resource for resource, _, _ in words], RESOURCES)}
+        if step in ('bind', 'escalate') and draw.random() < 0.2:
+            # (who may write any rule is told no role that the same rule lets one bind)
+            drawn['verbs'] = ['bind', 'escalate']
         if draw.random() < (0.6 if row.of != 'any' else 0.3):
             named = {'user': self.users, 'group': self.teams, 'ClusterRole': self.roles, 'Role': self.roles}.get(row.over, self.accounts)
             drawn['resourceNames'] = some(draw, named) + some(draw, self.users + self.teams + [''])[1:]

@@ -1,6 +1,6 @@
 -- The object names of the rules that let one bind roles.
-use Rattle.std.proofs.Common.{◌≡◌, ◌↔◌, [], List, Any, Contains, arith, inl, inr, subst, sym}
-use Rattle.std.specs.Prelude.{codes}
+use Rattle.std.proofs.Common.{◌≡◌, ◌↔◌, [], List, Any, Contains, arith, inl, inr, refl, subst, sym}
+use Rattle.std.specs.Prelude.{IsTrue, codes}
 use Rattle.std.specs.List.Retain.{DiffersFromLast, IsFiltered}
 use Rattle.std.specs.List.Sorted.{IsPermutation, IsSorted, IsStrictlySortedBy}
 use Rattle.std.specs.Cmp.Lexicographic.{texts_ties}
@@ -18,11 +18,12 @@ use Rattle.rbac_terms.specs.declared.granting.Role.{Role}
 use Rattle.rbac_terms.specs.declared.matching.Rule.{Rule}
 use Rattle.rbac_model.proofs.OwnWords.{any_from}
 use Rattle.rbac_model.specs.Policies.{Held}
-use Rattle.rbac_paths.specs.BoundNames.{AreBoundNames, BindsAny, BindsEach, BindsEachRole, BindsNamed, IsBoundName, SomeRule}
+use Rattle.rbac_paths.specs.BoundNames.{AreBoundNames, BindsAny, BindsEach, BindsEachRole, BindsNamed, IsBoundName, SomeRule, TakesAllToo, TakesMore}
 use Rattle.rbac_paths.specs.declared.bound_names.BindWords.{BindWords}
 use Rattle.rbac_paths.specs.Rows.{AreOfStep, MatchesRow}
 use Rattle.rbac_paths.specs.Steps.{StepRowView, rbac, table}
-use Rattle.rbac_steps.specs.declared.steps.Step.TheVariants.{Bind}
+use Rattle.rbac_steps.specs.declared.steps.Step.{Step}
+use Rattle.rbac_steps.specs.declared.steps.Step.TheVariants.{Bind, Escalate}
 use Rattle.rbac_paths.proofs.WordsAdded.{AddsOf}
 use Rattle.rbac_paths.specs.SharedWords.{AddsWhere}
 
@@ -61,8 +62,8 @@ both_add h names (between, first, second) name = (
 
 -- the names in rules are all bound names, if no rule lets one bind each Role; otherwise with the
 -- names of all Roles
-module _ (h : Held) (names : List Text) (in_rules : (name : Text) → Contains names name ↔ SomeRule (λ rule. BindsNamed rule name) h) where
-  pub with_roles : SomeRule BindsEachRole h → (all : List Text) → AddsWhere (λ name. Any (λ role. role.name ≡ name) h.roles) names all → (name : Text) → Contains all name ↔ IsBoundName h name
+module _ (steps : List Step) (h : Held) (names : List Text) (in_rules : (name : Text) → Contains names name ↔ SomeRule (λ rule. BindsNamed rule name) h) where
+  pub with_roles : SomeRule (BindsEachRole steps) h → (all : List Text) → AddsWhere (λ name. Any (λ role. role.name ≡ name) h.roles) names all → (name : Text) → Contains all name ↔ IsBoundName steps h name
   with_roles some all adds name = (
     λ c. elim ((adds name).0 c) [
       | inl listed ↦ inl ((in_rules name).0 listed)
@@ -74,7 +75,7 @@ module _ (h : Held) (names : List Text) (in_rules : (name : Text) → Contains n
     ],
   )
 
-  pub without_roles : (SomeRule BindsEachRole h → ⊥) → (name : Text) → Contains names name ↔ IsBoundName h name
+  pub without_roles : (SomeRule (BindsEachRole steps) h → ⊥) → (name : Text) → Contains names name ↔ IsBoundName steps h name
   without_roles none name = (
     λ c. inl ((in_rules name).0 c),
     λ is. elim is [
@@ -96,34 +97,51 @@ module _ (all sorted once : List Text) (moved : IsPermutation all sorted) (up : 
       )
 
 -- names that are put in order are bound names as before
-pub names_are : (h : Held) (listed names in_rules bound : List Text)
-    → ((name : Text) → Contains listed name ↔ SomeRule (λ rule. BindsNamed rule name) h) → ((name : Text) → Contains names name ↔ IsBoundName h name)
+pub names_are : (steps : List Step) (h : Held) (listed names in_rules bound : List Text)
+    → ((name : Text) → Contains listed name ↔ SomeRule (λ rule. BindsNamed rule name) h) → ((name : Text) → Contains names name ↔ IsBoundName steps h name)
     → IsStrictlySortedBy text_cmp in_rules → IsStrictlySortedBy text_cmp bound
     → ((name : Text) → Contains in_rules name ↔ Contains listed name) → ((name : Text) → Contains bound name ↔ Contains names name)
-    → AreBoundNames h in_rules bound
-names_are h listed names in_rules bound of are up ascending same too = record {
+    → AreBoundNames steps h in_rules bound
+names_are steps h listed names in_rules bound of are up ascending same too = record {
   listed_ascending = up;
   ascending = ascending;
   of_rules = λ w. (λ c. (of w).0 ((same w).0 c), λ is. (same w).1 ((of w).1 is));
   exact = λ w. (λ c. (are w).0 ((too w).0 c), λ is. (too w).1 ((are w).1 is));
 }
 
--- ---- each Role, and not each cluster role
+-- ---- each Role, and not everything
 
 some_as : (h : Held) (Is Also : Rule → Type 0) → ((rule : Rule) → Is rule → Also rule) → SomeRule Is h → SomeRule Also h
 some_as h Is Also same (inl (k, role, low, at, (i, rule, within, is, holds))) = inl (k, role, low, at, (i, rule, within, is, same rule holds))
 some_as h Is Also same (inr (k, role, low, at, (i, rule, within, is, holds))) = inr (k, role, low, at, (i, rule, within, is, same rule holds))
 
-module _ (b : BindWords) (verb : b.verb.now ≡ codes "bind") (group : b.group.now ≡ rbac) (roles : b.roles.now ≡ codes "roles") (cluster_roles : b.cluster_roles.now ≡ codes "clusterroles") where
-  allowed : (rule : Rule) (kind name : Text) → kind ≡ name → RuleAllows rule b.verb.now (Resource b.group.now kind []) → BindsAny name rule
-  allowed rule kind name is allows = subst (λ (v : Text). RuleAllows rule v (Resource rbac name [])) verb (subst (λ (g : Text). RuleAllows rule b.verb.now (Resource g name [])) group (subst (λ (t : Text). RuleAllows rule b.verb.now (Resource b.group.now t [])) is allows))
+-- a rule allows a request exactly if it allows the one with the same words
+by_words : (rule : Rule) (v verb g group k kind : Text) → v ≡ verb → g ≡ group → k ≡ kind → RuleAllows rule v (Resource g k []) ↔ RuleAllows rule verb (Resource group kind [])
+by_words rule v verb g group k kind of_verb of_group of_kind =
+    subst (λ (t : Text). RuleAllows rule v (Resource g k []) ↔ RuleAllows rule t (Resource group kind [])) of_verb
+    (subst (λ (t : Text). RuleAllows rule v (Resource g k []) ↔ RuleAllows rule v (Resource t kind [])) of_group
+    (subst (λ (t : Text). RuleAllows rule v (Resource g k []) ↔ RuleAllows rule v (Resource g t [])) of_kind (λ a. a, λ a. a)))
 
-  allows_too : (rule : Rule) (kind name : Text) → kind ≡ name → BindsAny name rule → RuleAllows rule b.verb.now (Resource b.group.now kind [])
-  allows_too rule kind name is binds = subst (λ (t : Text). RuleAllows rule b.verb.now (Resource b.group.now t [])) (sym is) (subst (λ (g : Text). RuleAllows rule b.verb.now (Resource g name [])) (sym group) (subst (λ (v : Text). RuleAllows rule v (Resource rbac name [])) (sym verb) binds))
+module _ (steps : List Step) (b : BindWords) (verb : b.verb.now ≡ codes "bind") (escalate : b.escalate.now ≡ codes "escalate") (group : b.group.now ≡ rbac) (roles : b.roles.now ≡ codes "roles") (cluster_roles : b.cluster_roles.now ≡ codes "clusterroles")
+    (escalates : IsTrue b.escalates ↔ Any (λ step. step ≡ Escalate) steps) where
+  among : IsTrue b.escalates → Contains steps Escalate
+  among is = let a = escalates.0 is in subst (λ (s : Step). Contains steps s) a.4 (a.0, a.2, a.3)
 
-  pub each_by_words : (h : Held) → SomeRule (BindsEach b) h ↔ SomeRule BindsEachRole h
+  takes_all : (rule : Rule) → TakesMore b rule → TakesAllToo steps rule
+  takes_all rule (inl all) = inl ((by_words rule b.verb.now (codes "bind") b.group.now rbac b.cluster_roles.now (codes "clusterroles") verb group cluster_roles).0 all)
+  takes_all rule (inr both) = inr (among both.0, (by_words rule b.escalate.now (codes "escalate") b.group.now rbac b.roles.now (codes "roles") escalate group roles).0 both.1)
+
+  takes_more : (rule : Rule) → TakesAllToo steps rule → TakesMore b rule
+  takes_more rule (inl all) = inl ((by_words rule b.verb.now (codes "bind") b.group.now rbac b.cluster_roles.now (codes "clusterroles") verb group cluster_roles).1 all)
+  takes_more rule (inr both) =
+      inr (escalates.1 (any_from (λ step. step ≡ Escalate) steps Escalate both.0 refl), (by_words rule b.escalate.now (codes "escalate") b.group.now rbac b.roles.now (codes "roles") escalate group roles).1 both.1)
+
+  each_role : (rule : Rule) → RuleAllows rule b.verb.now (Resource b.group.now b.roles.now []) ↔ BindsAny (codes "roles") rule
+  each_role rule = by_words rule b.verb.now (codes "bind") b.group.now rbac b.roles.now (codes "roles") verb group roles
+
+  pub each_by_words : (h : Held) → SomeRule (BindsEach b) h ↔ SomeRule (BindsEachRole steps) h
   unfolding BindsEach
   each_by_words h = (
-    some_as h (BindsEach b) BindsEachRole (λ rule w. (allowed rule b.roles.now (codes "roles") roles w.0, λ all. w.1 (allows_too rule b.cluster_roles.now (codes "clusterroles") cluster_roles all))),
-    some_as h BindsEachRole (BindsEach b) (λ rule w. (allows_too rule b.roles.now (codes "roles") roles w.0, λ all. w.1 (allowed rule b.cluster_roles.now (codes "clusterroles") cluster_roles all))),
+    some_as h (BindsEach b) (BindsEachRole steps) (λ rule w. ((each_role rule).0 w.0, λ all. w.1 (takes_more rule all))),
+    some_as h (BindsEachRole steps) (BindsEach b) (λ rule w. ((each_role rule).1 w.0, λ more. w.1 (takes_all rule more))),
   )

@@ -1,5 +1,5 @@
--- Each role that is taken over has a bound name. A node that may bind each cluster role of a scope
--- takes over everything there, so its roles are left out.
+-- Each role that is taken over has a bound name. A node that may bind each cluster role of a scope,
+-- or write any rule into its Roles, takes over everything there, so its roles are left out.
 use Rattle.std.proofs.Common.{◌≡◌, ◌≢◌, ◌∙◌, ◌⊎◌, ◌+◌, Bool, false, true, cond, filter, ℕ, zero, suc, List, [], ◌∷◌, Option, Some, None, Any, Contains, ap, arith, inl, inr, refl, slice_get, subst, sym}
 use Rattle.std.specs.Prelude.{codes}
 use Rattle.std.specs.List.{flat_map}
@@ -14,19 +14,18 @@ use Rattle.rbac_terms.specs.declared.granting.RoleRef.TheVariants.{Role as ToRol
 use Rattle.rbac_terms.specs.declared.granting.ClusterRole.{ClusterRole}
 use Rattle.rbac_terms.specs.declared.granting.Role.{Role}
 use Rattle.rbac_terms.specs.declared.matching.Rule.{Rule}
-use Rattle.rbac_model.proofs.Decided.{rule as decided}
 use Rattle.rbac_model.proofs.GrantNumbers.{binding_of}
 use Rattle.rbac_model.proofs.OwnWords.{any_from}
 use Rattle.rbac_model.proofs.Stairs.{reached_held}
 use Rattle.rbac_model.specs.Policies.{AreRulesFor, AreRulesOf, GrantView, Held, IsPolicy, IsRefTo, Live, PolicyView, Source, InRole, InClusterRole, SourcedRule, written_from}
-use Rattle.rbac_paths.specs.BoundNames.{BindsAny, BindsEachRole, BindsNamed, IsBoundName, SomeRule}
+use Rattle.rbac_paths.specs.BoundNames.{BindsAny, BindsEachRole, BindsNamed, EscalatesRoles, IsBoundName, SomeRule, TakesAllToo}
 use Rattle.rbac_paths.specs.Having.{HasRoleRule, HoldingView, IsHolding}
 use Rattle.rbac_paths.specs.Joints.{IsNobody}
 use Rattle.rbac_paths.specs.Nodes.{NodeView, Somebody, ClusterRoleIn, OwnRole, EverythingIn}
 use Rattle.rbac_paths.specs.Rows.{HasRowResource, MatchesRow}
 use Rattle.rbac_paths.specs.Steps.{StepRowView, asked_in, rbac, row, table}
 use Rattle.rbac_paths.specs.Taking.{IsOver, RowTakes, RuleTakes, scope_namespace}
-use Rattle.rbac_paths.specs.TakingOver.{MayGoOn, HasAll, IsUntold, TakesByStep}
+use Rattle.rbac_paths.specs.TakingOver.{MayGoOn, HasAll, IsUntold, TakesByStep, WritesRoles}
 use Rattle.rbac_paths.proofs.AllowedBy.{allow_by}
 use Rattle.rbac_paths.proofs.ByRules.{takes_over}
 use Rattle.rbac_paths.proofs.Mapped.{is_element, one_element}
@@ -36,7 +35,7 @@ use Rattle.rbac_paths.specs.declared.table.Counts.TheVariants as counted
 use Rattle.rbac_paths.specs.declared.table.Names.TheVariants as names
 use Rattle.rbac_paths.specs.declared.table.Over.{Over}
 use Rattle.rbac_paths.specs.declared.table.Over.TheVariants as over
-use Rattle.rbac_steps.specs.declared.steps.Step.TheVariants.{Bind}
+use Rattle.rbac_steps.specs.declared.steps.Step.TheVariants.{Bind, Escalate}
 
 -- the rule is written in some role that is held
 abbrev pub IsWritten : Held → Rule → Type 0
@@ -106,6 +105,9 @@ bind_by_name resource over = row Bind names.Own counted.InNamespaces (codes "bin
 
 abbrev bind_all : StepRowView
 bind_all = row Bind names.None counted.InNamespaces (codes "bind" ∷ []) rbac (codes "clusterroles" ∷ []) over.Everything
+
+abbrev escalate_roles : StepRowView
+escalate_roles = row Escalate names.Any counted.InNamespaces (codes "escalate" ∷ []) rbac (codes "roles" ∷ []) over.EverythingInNamespace
 
 over_cluster_role : (o : Over) (counts : Counts) (role : ClusterRole) (scope : Option Text) (namespace own : Text) → IsOver o counts (ClusterRoleIn role scope) namespace own → o ≡ over.ClusterRoles
 over_cluster_role over.Users counts role scope namespace own is = elim is [ ]
@@ -217,17 +219,26 @@ module _ (home : Option Text) (rule : Rule) (y : NodeView) (scope : Option Text)
     | inr has ↦ inl (by_name home rule y scope (codes "clusterroles") over.ClusterRoles w there at has)
   ]
 
--- a rule that binds a Role has its name, or takes over everything in the scope, or lets one bind
--- each Role and not each cluster role
-module _ (home : Option Text) (rule : Rule) (y : NodeView) (scope : Option Text) (at : Contains table (bind_by_name (codes "roles") over.Roles)) where
-  named_or_each : (w : RowTakes (bind_by_name (codes "roles") over.Roles) home rule y) → w.namespace ≡ scope_namespace scope → (BindsNamed rule w.own ⊎ BindsEachRole rule) ⊎ RuleTakes Bind home rule (EverythingIn scope)
-  named_or_each w there = elim w.allows.1.2 [
-    | inl none ↦ elim (decided rule (codes "bind") (Resource rbac (codes "clusterroles") [])) [
-      | inl all ↦ inr (takes_all home rule y scope (codes "roles") over.Roles w there all)
-      | inr not_all ↦ inl (inr (binds_any home rule y scope (codes "roles") over.Roles w there none, not_all))
-    ]
-    | inr has ↦ inl (inl (by_name home rule y scope (codes "roles") over.Roles w there at has))
-  ]
+-- a rule that binds a Role and lets one write any rule into Roles takes over everything in the
+-- Role's namespace
+escalates_all : (home : Option Text) (rule : Rule) (y : NodeView) (namespace : Text) (resource : Text) (o : Over) (w : RowTakes (bind_by_name resource o) home rule y) → w.namespace ≡ namespace → EscalatesRoles rule
+    → RuleTakes Escalate home rule (EverythingIn (Some namespace))
+escalates_all home rule y namespace resource o w there escalates = any_from (λ row. (row.step ≡ Escalate) × RowTakes row home rule (EverythingIn (Some namespace))) table escalate_roles (19, omega arith, refl) (
+  refl,
+  record {
+    namespace = w.namespace;
+    own = [];
+    verb = codes "escalate";
+    text = codes "roles";
+    name = [];
+    over = (there, refl);
+    of_verbs = is_element (codes "escalate") (codes "escalate") refl;
+    of_resources = is_element (codes "roles") (codes "roles") refl;
+    named = tt;
+    live = live_as home w.namespace rbac w.text w.name (codes "roles") [] w.live;
+    allows = escalates;
+  },
+)
 
 -- everything in a scope leads to no role
 no_everything : (x y : NodeView) → IsNobody y → MayGoOn x y → (scope : Option Text) → x ≢ EverythingIn scope
@@ -247,8 +258,8 @@ some_rule h Is rule is (inr (k, role, low, at, there)) = inr (k, role, low, at, 
 
 module _ (p : PolicyView) (ok : IsPolicy p) (steps : List Step) (x : NodeView) (held : HasOwnRole p.held x) where
   module _ (h : HoldingView) (has : IsHolding p x h) where
-    all_taken : (scope : Option Text) → Contains steps Bind → RuleTakes Bind h.home h.rule (EverythingIn scope) → HasAll p steps x scope
-    all_taken scope among takes = (Bind, inl refl, among, takes_over p x Bind (EverythingIn scope) h.home h.rule (λ namespace verb t live allows. (allow_by p ok x namespace verb t).1 (h, has, live, allows)) takes)
+    all_taken : (s : Step) (scope : Option Text) → WritesRoles s → Contains steps s → RuleTakes s h.home h.rule (EverythingIn scope) → HasAll p steps x scope
+    all_taken s scope writes among takes = (s, writes, among, takes_over p x s (EverythingIn scope) h.home h.rule (λ namespace verb t live allows. (allow_by p ok x namespace verb t).1 (h, has, live, allows)) takes)
 
   -- the rule by which a node is taken over
   module _ (step : Step) (y : NodeView) (t : TakesByStep p steps x step y) where
@@ -286,9 +297,16 @@ module _ (p : PolicyView) (ok : IsPolicy p) (steps : List Step) (x : NodeView) (
       takes : RowTakes (bind_by_name resource o) by.0.home by.0.rule y
       takes = subst (λ (r : StepRowView). RowTakes r by.0.home by.0.rule y) same by.2
 
-      bound : (Is : Rule → Type 0) (scope : Option Text) → IsNobody y → (HasAll p steps x scope → IsUntold p steps x y) → Is by.0.rule ⊎ RuleTakes Bind by.0.home by.0.rule (EverythingIn scope) → SomeRule Is p.held
-      bound Is scope nobody hides (inl is) = some_rule p.held Is by.0.rule is (holding_written p ok x by.0 held (no_everything x y nobody t.goes_on) by.1)
-      bound Is scope nobody hides (inr all) = absurd (t.told (inl is_bind) (hides (all_taken by.0 by.1 scope bind_among all)))
+      bound : (Is : Rule → Type 0) → IsNobody y → Is by.0.rule → SomeRule Is p.held
+      bound Is nobody is = some_rule p.held Is by.0.rule is (holding_written p ok x by.0 held (no_everything x y nobody t.goes_on) by.1)
+
+      -- the rule doesn't take over everything, beside which the node would be left out
+      not_all : (s : Step) (scope : Option Text) → (HasAll p steps x scope → IsUntold p steps x y) → WritesRoles s → Contains steps s → RuleTakes s by.0.home by.0.rule (EverythingIn scope) → ⊥
+      not_all s scope hides writes among all = t.told (inl is_bind) (hides (all_taken by.0 by.1 s scope writes among all))
+
+      none_too : (namespace : Text) → takes.namespace ≡ namespace → (HasAll p steps x (Some namespace) → IsUntold p steps x y) → TakesAllToo steps by.0.rule → ⊥
+      none_too namespace there hides (inl all) = not_all Bind (Some namespace) hides (inl refl) bind_among (takes_all by.0.home by.0.rule y (Some namespace) resource o takes there all)
+      none_too namespace there hides (inr both) = not_all Escalate (Some namespace) hides (inr refl) both.0 (escalates_all by.0.home by.0.rule y namespace resource o takes there both.1)
 
   hides_cluster_role : (role : ClusterRole) (scope : Option Text) → HasAll p steps x scope → IsUntold p steps x (ClusterRoleIn role scope)
   hides_cluster_role role None all = all
@@ -303,9 +321,12 @@ module _ (p : PolicyView) (ok : IsPolicy p) (steps : List Step) (x : NodeView) (
       let h = (by step y t).0 in
       let at = in_table step y t (codes "clusterroles") over.ClusterRoles same in
       let named : BindsNamed h.rule role.name ⊎ RuleTakes Bind h.home h.rule (EverythingIn scope) = subst (λ (n : Text). BindsNamed h.rule n ⊎ RuleTakes Bind h.home h.rule (EverythingIn scope)) w.over.1 (named_or_all h.home h.rule y scope at w w.over.0) in
-      bound step y t (codes "clusterroles") over.ClusterRoles same (λ rule. BindsNamed rule role.name) scope tt (hides_cluster_role role scope) named
+      elim named [
+        | inl own ↦ bound step y t (codes "clusterroles") over.ClusterRoles same (λ rule. BindsNamed rule role.name) tt own
+        | inr all ↦ absurd (not_all step y t (codes "clusterroles") over.ClusterRoles same Bind scope (hides_cluster_role role scope) (inl refl) (bind_among step y t (codes "clusterroles") over.ClusterRoles same) all)
+      ]
 
-  pub role_bound : (step : Step) (role : Role) → Contains p.held.roles role → TakesByStep p steps x step (OwnRole role) → IsBoundName p.held role.name
+  pub role_bound : (step : Step) (role : Role) → Contains p.held.roles role → TakesByStep p steps x step (OwnRole role) → IsBoundName steps p.held role.name
   role_bound step role there t =
       let y = OwnRole role in
       let c = t.can in
@@ -313,10 +334,13 @@ module _ (p : PolicyView) (ok : IsPolicy p) (steps : List Step) (x : NodeView) (
       let w = takes step y t (codes "roles") over.Roles same in
       let h = (by step y t).0 in
       let at = in_table step y t (codes "roles") over.Roles same in
-      let named = named_or_each h.home h.rule y (Some role.namespace) at w w.over.0 in
-      let All : Type 0 = RuleTakes Bind h.home h.rule (EverythingIn (Some role.namespace)) in
-      elim named [
-        | inl (inl own) ↦ inl (bound step y t (codes "roles") over.Roles same (λ rule. BindsNamed rule role.name) (Some role.namespace) tt (λ all. inr all) (inl (subst (λ (n : Text). BindsNamed h.rule n) w.over.1 own)))
-        | inl (inr each) ↦ inr (bound step y t (codes "roles") over.Roles same BindsEachRole (Some role.namespace) tt (λ all. inr all) (inl each), any_from (λ r. r.name ≡ role.name) p.held.roles role there refl)
-        | inr all ↦ inl (bound step y t (codes "roles") over.Roles same (λ rule. BindsNamed rule role.name) (Some role.namespace) tt (λ everything. inr everything) (inr all))
+      let scope : Option Text = Some role.namespace in
+      elim w.allows.1.2 [
+        | inl none ↦ inr (
+          bound step y t (codes "roles") over.Roles same (BindsEachRole steps) tt
+              (binds_any h.home h.rule y scope (codes "roles") over.Roles w w.over.0 none, none_too step y t (codes "roles") over.Roles same role.namespace w.over.0 (λ all. inr all)),
+          any_from (λ r. r.name ≡ role.name) p.held.roles role there refl,
+        )
+        | inr has ↦ inl (bound step y t (codes "roles") over.Roles same (λ rule. BindsNamed rule role.name) tt
+            (subst (λ (n : Text). BindsNamed h.rule n) w.over.1 (by_name h.home h.rule y scope (codes "roles") over.Roles w w.over.0 at has)))
       ]

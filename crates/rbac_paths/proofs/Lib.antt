@@ -13,6 +13,7 @@ pub mod ByRules
 pub mod Choosing
 pub mod Closed
 pub mod Counting
+pub mod Enough
 pub mod Entries
 pub mod Following
 pub mod GatheredRoles
@@ -25,6 +26,7 @@ pub mod GrantWords
 pub mod Grants
 pub mod InScopes
 pub mod Keeping
+pub mod Kept
 pub mod KeysApart
 pub mod ListPlaces
 pub mod Mapped

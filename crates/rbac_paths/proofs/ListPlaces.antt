@@ -22,6 +22,7 @@ use Rattle.rbac_paths.specs.Told.{grant_holding}
 use Rattle.rbac_steps.specs.declared.steps.Step.{Step}
 use Rattle.rbac_paths.proofs.GrantWords.{give, given, takes_by_grants}
 use Rattle.rbac_paths.proofs.GraphOf.{pushed}
+use Rattle.rbac_paths.proofs.Kept.{AreKept}
 use Rattle.rbac_paths.proofs.Mapped.{is_element, one_element}
 use Rattle.rbac_paths.proofs.Others.{few_decide}
 use Rattle.rbac_paths.proofs.WhatDecides.{given_decide}
@@ -73,37 +74,12 @@ listed_are lists places n = (from_listed lists places n, λ w. to_listed lists p
 
 -- ---- the places of those that have some grants, among the first of these
 
-abbrev pub AreGrantingAmong : List (List ℕ) → List ℕ → List ℕ → Type 0
-AreGrantingAmong grants named places = (at : ℕ) → Contains places at
-    ↔ (Contains named at × ((n : ℕ) × Contains (get_or grants at []) n))
+-- a list is there, and isn't empty
+abbrev pub HasSome : List (List ℕ) → ℕ → Type 0
+HasSome grants at = (n : ℕ) × Contains (get_or grants at []) n
 
 module _ (grants : List (List ℕ)) where
-  pub among_none : (places : List ℕ) → places ≡ [] → AreGrantingAmong grants [] places
-  among_none places none at = (λ c. absurd (nothing_in places at none c), λ w. absurd (let low = w.0.1 in omega (arith, low)))
-
-  module _ (named : List ℕ) (next : ℕ) (places : List ℕ) (are : AreGrantingAmong grants named places) where
-    pub among_more : (n : ℕ) → Contains (get_or grants next []) n → AreGrantingAmong grants (named ++ next ∷ []) (places ++ next ∷ [])
-    among_more n has at = (
-      λ c. elim (Contains-push_cases places next at c) [
-        | inl old ↦ (let w = (are at).0 old in (Contains-append_left named (next ∷ []) at w.0, w.1))
-        | inr same ↦ subst (λ (k : ℕ). Contains (named ++ next ∷ []) k × ((m : ℕ) × Contains (get_or grants k []) m)) same (Contains-push named next, (n, has))
-      ],
-      λ w. elim (Contains-push_cases named next at w.0) [
-        | inl old ↦ Contains-append_left places (next ∷ []) at ((are at).1 (old, w.1))
-        | inr same ↦ subst (λ (k : ℕ). Contains (places ++ next ∷ []) k) same (Contains-push places next)
-      ],
-    )
-
-    pub among_same : get_or grants next [] ≡ [] → AreGrantingAmong grants (named ++ next ∷ []) places
-    among_same none at = (
-      λ c. (let w = (are at).0 c in (Contains-append_left named (next ∷ []) at w.0, w.1)),
-      λ w. elim (Contains-push_cases named next at w.0) [
-        | inl old ↦ (are at).1 (old, w.1)
-        | inr same ↦ absurd (nothing_in (get_or grants at []) w.1.0 (subst (λ (k : ℕ). get_or grants k [] ≡ []) same none) w.1.1)
-      ],
-    )
-
-  pub among_all : (p : PolicyView) (who : Who) (named places : List ℕ) → AreGrantsByBinding p grants → AreNamedPlaces p who named → AreGrantingAmong grants named places → AreGrantingPlaces p grants who places
+  pub among_all : (p : PolicyView) (who : Who) (named places : List ℕ) → AreGrantsByBinding p grants → AreNamedPlaces p who named → AreKept (HasSome grants) named places → AreGrantingPlaces p grants who places
   among_all p who named places by names are at = (
     λ c. (let w = (are at).0 c in (w.1.0, w.1.1, (names w.1.0 at (by w.1.0 at w.1.1)).0 w.0)),
     λ w. (are at).1 ((names w.0 at (by w.0 at w.1)).1 w.2, (w.0, w.1)),

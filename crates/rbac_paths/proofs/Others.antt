@@ -120,61 +120,12 @@ counts_whole p steps x few decide y nobody whole t =
     let a = (decide t.0 y t.1.among nobody).1 t.1.can in
     any_from (CountsAt None) few a.1 (a.0, a.2, a.3) (subst (λ (z : NodeView). CountsAt (scope_at z) a.1) whole (counts_there a.1 y t.0 nobody a.4))
 
--- one more holding, which takes over other nodes or not
-module _ (steps : List Step) (hs : List HoldingView) (i : ℕ) (h : HoldingView) (low : i < length hs) (at : h ≡ get_or hs i h) (few : List HoldingView) (is : AreOverOthers steps (take i hs) few) where
-  one_more : take (i + 1) hs ≡ take i hs ++ h ∷ []
-  one_more = take_more hs i h low ∙ ap (λ (z : HoldingView). take i hs ++ z ∷ []) (sym at)
-
-  pub over_more : SomeMayTake steps h → AreOverOthers steps (take (i + 1) hs) (few ++ h ∷ [])
-  over_more may = subst (λ (zs : List HoldingView). AreOverOthers steps zs (few ++ h ∷ [])) (sym one_more) (λ z. (
-    λ c. elim (Contains-push_cases few h z c) [
-      | inl old ↦ (let w = (is z).0 old in (Contains-append_left (take i hs) (h ∷ []) z w.0, w.1))
-      | inr same ↦ (subst (λ (v : HoldingView). Contains (take i hs ++ h ∷ []) v) same (Contains-push (take i hs) h), subst (λ (v : HoldingView). SomeMayTake steps v) same may)
-    ],
-    λ w. elim (Contains-push_cases (take i hs) h z w.0) [
-      | inl old ↦ Contains-append_left few (h ∷ []) z ((is z).1 (old, w.1))
-      | inr same ↦ subst (λ (v : HoldingView). Contains (few ++ h ∷ []) v) same (Contains-push few h)
-    ],
-  ))
-
-  pub over_same : (SomeMayTake steps h → ⊥) → AreOverOthers steps (take (i + 1) hs) few
-  over_same none = subst (λ (zs : List HoldingView). AreOverOthers steps zs few) (sym one_more) (λ z. (
-    λ c. (let w = (is z).0 c in (Contains-append_left (take i hs) (h ∷ []) z w.0, w.1)),
-    λ w. elim (Contains-push_cases (take i hs) h z w.0) [
-      | inl old ↦ (is z).1 (old, w.1)
-      | inr same ↦ absurd (none (subst (λ (v : HoldingView). SomeMayTake steps v) (sym same) w.1))
-    ],
-  ))
-
 -- of a grant that is known
 pub over_at : (p : PolicyView) (steps : List Step) (n : ℕ) (g : GrantView) → slice_get p.grants n ≡ Some g → (May : Type 0) → May ↔ SomeMayTake steps (grant_holding g) → May ↔ IsOverOthersAt p steps n
 over_at p steps n g here May same = (
   λ may. (g, here, same.0 may),
   λ w. same.1 (subst (SomeMayTake steps) (ap grant_holding (same_Some w.0 g (sym w.1 ∙ here))) w.2),
 )
-
--- those of some numbers that have a property are kept, one number after another
-module _ (Has : ℕ → Type 0) (numbers : List ℕ) (next : ℕ) (kept : List ℕ) (are : (n : ℕ) → Contains kept n ↔ (Contains numbers n × Has n)) where
-  pub kept_more : Has next → (n : ℕ) → Contains (kept ++ next ∷ []) n ↔ (Contains (numbers ++ next ∷ []) n × Has n)
-  kept_more has n = (
-    λ c. elim (Contains-push_cases kept next n c) [
-      | inl old ↦ (let v = (are n).0 old in (Contains-append_left numbers (next ∷ []) n v.0, v.1))
-      | inr same ↦ subst (λ (k : ℕ). Contains (numbers ++ next ∷ []) k × Has k) same (Contains-push numbers next, has)
-    ],
-    λ v. elim (Contains-push_cases numbers next n v.0) [
-      | inl old ↦ Contains-append_left kept (next ∷ []) n ((are n).1 (old, v.1))
-      | inr same ↦ subst (λ (k : ℕ). Contains (kept ++ next ∷ []) k) same (Contains-push kept next)
-    ],
-  )
-
-  pub kept_same : (Has next → ⊥) → (n : ℕ) → Contains kept n ↔ (Contains (numbers ++ next ∷ []) n × Has n)
-  kept_same isnt n = (
-    λ c. (let v = (are n).0 c in (Contains-append_left numbers (next ∷ []) n v.0, v.1)),
-    λ v. elim (Contains-push_cases numbers next n v.0) [
-      | inl old ↦ (are n).1 (old, v.1)
-      | inr same ↦ absurd (isnt (subst Has (sym same) v.1))
-    ],
-  )
 
 -- about roles and everything, the holdings whose rules match a row for these decide
 pub few_decide : (p : PolicyView) (steps : List Step) (x : NodeView) (hs : List HoldingView) → DecideOn p steps x hs IsAnyNode → (few : List HoldingView)
@@ -210,38 +161,6 @@ module _ (p : PolicyView) (steps : List Step) (x : NodeView) (ys : List NodeView
     λ c. absurd (let low = (subst (λ (ks : List ℕ). Contains ks j) empty c).1 in omega (arith, low)),
     λ o. absurd (let t = o.3 in let a = (decide t.0 o.0 t.1.among o.2).1 t.1.can in let low = a.2 in omega (arith, low)),
   )
-
-  -- the other nodes at some places that are taken over
-  pub others_none : (js : List ℕ) → js ≡ [] → AreOthersAt p steps x ys [] js
-  others_none js empty j = (
-    λ c. absurd (let low = (subst (λ (ks : List ℕ). Contains ks j) empty c).1 in omega (arith, low)),
-    λ w. absurd (let low = w.0.1 in omega (arith, low)),
-  )
-
-  module _ (places : List ℕ) (place : ℕ) (y : NodeView) (at : slice_get ys place ≡ Some y) (js : List ℕ) (of : AreOthersAt p steps x ys places js) where
-    pub others_more : IsNobody y → TakesOver p steps x y → AreOthersAt p steps x ys (places ++ place ∷ []) (js ++ place ∷ [])
-    others_more nobody takes j = (
-      λ c. elim (Contains-push_cases js place j c) [
-        | inl old ↦ (let w = (of j).0 old in (Contains-append_left places (place ∷ []) j w.0, w.1))
-        | inr same ↦ (subst (Contains (places ++ place ∷ [])) same (Contains-push places place), (y, subst (λ (k : ℕ). slice_get ys k ≡ Some y) same at, nobody, takes))
-      ],
-      λ w. elim (Contains-push_cases places place j w.0) [
-        | inl old ↦ Contains-append_left js (place ∷ []) j ((of j).1 (old, w.1))
-        | inr same ↦ subst (Contains (js ++ place ∷ [])) same (Contains-push js place)
-      ],
-    )
-
-    pub others_same : (TakesOver p steps x y → ⊥) → AreOthersAt p steps x ys (places ++ place ∷ []) js
-    others_same none j = (
-      λ c. (let w = (of j).0 c in (Contains-append_left places (place ∷ []) j w.0, w.1)),
-      λ w. elim (Contains-push_cases places place j w.0) [
-        | inl old ↦ (of j).1 (old, w.1)
-        | inr same ↦ absurd (
-            let o = w.1 in
-            let is : y ≡ o.0 = same_Some y o.0 (sym (subst (λ (k : ℕ). slice_get ys k ≡ Some y) same at) ∙ o.1) in
-            none (subst (λ (z : NodeView). TakesOver p steps x z) (sym is) o.3))
-      ],
-    )
 
   -- a node takes over other nodes only at the places that are checked
   pub others_all : (few scoped : List HoldingView) → DecideOn p steps x few IsNobody → AreScoped p steps x scoped → (places js : List ℕ) → AreAskedPlaces ys few scoped places

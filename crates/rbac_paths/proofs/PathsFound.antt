@@ -1,144 +1,93 @@
 -- A search of the graph of nodes finds exactly the paths from a principal.
 use Rattle.std.proofs.Common.{◌≡◌, ◌≢◌, ◌↔◌, ◌∙◌, ◌+◌, ◌<◌, ℕ, suc, List, Option, None, Some, IsSome, All, Any, Contains, ap, arith, get_or, inl, inr, length, refl, slice_get, subst, sym}
-use Rattle.std.specs.Ordering.{is_lt, ordering_reverse}
-use Rattle.std.specs.List.Sorted.{IsSorted, IsStrictlySortedBy}
-use Rattle.std.proofs.lemmas.Cmp.{nat_list_cmp_total}
 use Rattle.std.proofs.lemmas.List.{get_or_default}
-use Rattle.std.proofs.lemmas.Map.Keys.{Less-from_sorted}
 use Rattle.std.proofs.lemmas.Option.{same_Some}
 use Rattle.rbac_terms.specs.Principals.{Who, who_key}
-use Rattle.rbac_terms.specs.Text.{Text, text_cmp}
-use Rattle.rbac_model.specs.Policies.{IsPolicy, PolicyView}
+use Rattle.rbac_model.specs.Policies.{PolicyView}
 use Rattle.rbac_ways.specs.Ways.{AreInOrder, AreStops, GraphView, IsLeastBefore, IsReachedIn}
 use Rattle.rbac_ways.specs.declared.graph.Stop.{Stop}
-use Rattle.rbac_paths.specs.BoundNames.{AreBoundNames}
-use Rattle.rbac_paths.specs.NodeLists.{AreNodes, IsNamedOf, IsNode}
+use Rattle.rbac_paths.specs.NodeLists.{IsNode}
 use Rattle.rbac_paths.specs.Nodes.{NodeView, Somebody, ClusterRoleIn, OwnRole, EverythingIn}
 use Rattle.rbac_paths.specs.Paths.{ArePaths, GoesTo, IsFewest, IsGraphOf, IsPath, PathView}
 use Rattle.rbac_paths.specs.Principals.{IsOneWith}
-use Rattle.rbac_paths.specs.TakingOver.{TakesOver}
-use Rattle.rbac_paths.specs.Told.{HasItsRole}
-use Rattle.rbac_paths.specs.Tracing.{AreLinked, ArePathsAt, HasKeyAt, HasKeyOf, IsPathAt}
+use Rattle.rbac_paths.specs.Searching.{AreEnough}
+use Rattle.rbac_paths.specs.Tracing.{AreLinked, ArePathsAt, HasKeyOf, IsAt, IsPathAt}
 use Rattle.rbac_steps.specs.declared.steps.Step.{Step}
-use Rattle.rbac_paths.proofs.Closed.{HasOwnRole, cluster_role_bound, role_bound}
+use Rattle.rbac_paths.proofs.Enough.{graph_by}
 use Rattle.rbac_paths.proofs.GraphWays.{IsGraphBy, among, at_low, before, fewest, leads, one_less, reached, stop_is, stop_there, within}
 
--- names in strict order are in order
-pub in_order : (names : List Text) → IsStrictlySortedBy text_cmp names → IsSorted text_cmp names
-in_order names up k d low high =
-    let less = Less-from_sorted text_cmp names k (k + 1) d up (omega arith) high in
-    ap is_lt (nat_list_cmp_total.antisymm (get_or names (k + 1) d) (get_or names k d) ∙ ap ordering_reverse less)
+module _ (p : PolicyView) (all : List Who) (steps : List Step) (ys : List NodeView) (enough : AreEnough p all steps ys) (principals : List Who) (who : Who) (exact : (other : Who) → Contains all other ↔ IsOneWith principals who other)
+    (g : GraphView) (graph : IsGraphOf p steps ys g) (starts : List ℕ) (keyed : (j : ℕ) → Contains starts j ↔ IsAt (HasKeyOf who) ys j) where
+  abbrev Goes : NodeView → NodeView → Type 0
+  Goes x y = GoesTo p all steps x y
 
-module _ (p : PolicyView) (ok : IsPolicy p) (all : List Who) (listed names : List Text) (bound : AreBoundNames p.held listed names) (ys : List NodeView) (are : AreNodes p all listed names ys) where
-  its_role : (y : NodeView) → IsNode p all y → HasItsRole p.held y
-  its_role (Somebody who) is = tt
-  its_role (ClusterRoleIn role scope) is = is.0
-  its_role (OwnRole role) is = tt
-  its_role (EverythingIn scope) is = tt
+  abbrev IsStart : NodeView → Type 0
+  IsStart y = y ≡ Somebody who
 
-  own_role : (y : NodeView) → IsNode p all y → HasOwnRole p.held y
-  own_role (Somebody who) is = tt
-  own_role (ClusterRoleIn role scope) is = is.0
-  own_role (OwnRole role) is = is.0
-  own_role (EverythingIn scope) is = tt
+  same_key : (other : Who) → IsOneWith principals who other → who_key other ≡ who_key who → other ≡ who
+  same_key other (inl is) key = is
+  same_key other (inr another) key = absurd (another.1 key)
 
-  pub held : All (HasItsRole p.held) ys
-  held k d low =
-      let y = get_or ys k d in
-      its_role y ((are.exact y).0 (k, low, get_or_default ys k y d low)).0
+  is_start : (y : NodeView) → IsNode p all y → HasKeyOf who y → IsStart y
+  is_start (Somebody other) is key = ap Somebody (same_key other ((exact other).0 is) key)
+  is_start (ClusterRoleIn role scope) is key = elim key [ ]
+  is_start (OwnRole role) is key = elim key [ ]
+  is_start (EverythingIn scope) is key = elim key [ ]
 
-  module _ (steps : List Step) where
-    pub named : (x y : NodeView) → IsNode p all x → IsNode p all y → TakesOver p steps x y → IsNamedOf listed names y
-    named x (Somebody who) is node takes = tt
-    named x (ClusterRoleIn role scope) is node takes = (bound.of_rules role.name).1 (cluster_role_bound p ok steps x (own_role x is) takes.0 role scope takes.1)
-    named x (OwnRole role) is node takes = (bound.exact role.name).1 (role_bound p ok steps x (own_role x is) takes.0 role node.0 takes.1)
-    named x (EverythingIn scope) is node takes = tt
+  start_at : (j : ℕ) (y : NodeView) → slice_get ys j ≡ Some y → Contains starts j ↔ IsStart y
+  start_at j y at = (
+    λ c. (let has = (keyed j).0 c in
+        let here : has.0 ≡ y = same_Some has.0 y (sym has.1 ∙ at) in
+        is_start y (enough.nodes y (among ys j y at)) (subst (HasKeyOf who) here has.2)),
+    λ is. (keyed j).1 (y, at, subst (HasKeyOf who) (sym is) refl),
+  )
 
-    module _ (principals : List Who) (who : Who) (exact : (other : Who) → Contains all other ↔ IsOneWith principals who other)
-        (g : GraphView) (graph : IsGraphOf p steps ys g) (starts : List ℕ) (keyed : (j : ℕ) → Contains starts j ↔ HasKeyAt ys who j) where
-      abbrev Goes : NodeView → NodeView → Type 0
-      Goes x y = GoesTo p all steps x y
+  pub by_graph : IsGraphBy Goes IsStart ys g starts
+  by_graph = graph_by p all steps ys enough g graph IsStart starts start_at (λ y is. subst (Contains ys) (sym is) (enough.somebody who ((exact who).1 (inl refl))))
 
-      abbrev IsStart : NodeView → Type 0
-      IsStart y = y ≡ Somebody who
+  module _ (stops : List (Option Stop)) (found : AreStops g starts stops) where
+    abbrev stop_at : ℕ → Option Stop
+    stop_at j = get_or stops j None
 
-      is_node : (y : NodeView) → Contains ys y → IsNode p all y
-      is_node y c = ((are.exact y).0 c).0
+    pub linked : AreLinked p steps ys stops
+    linked j s at led =
+        let m = one_less s.edges led in
+        let is = stop_is g starts stops found j s at in
+        let least = subst (λ (n : ℕ). IsLeastBefore g starts n j s.before) m.1 is.before in
+        let x = at_low ys s.before (Somebody who) (within Goes IsStart ys g starts by_graph m.0 s.before least.0.leads) in
+        let y = at_low ys j (Somebody who) (within Goes IsStart ys g starts by_graph s.edges j is.nearest.leads) in
+        (x.0, y.0, x.1, y.1, (graph.edges s.before j x.0 y.0 x.1 y.1).0 least.1)
 
-      same_key : (other : Who) → IsOneWith principals who other → who_key other ≡ who_key who → other ≡ who
-      same_key other (inl is) key = is
-      same_key other (inr another) key = absurd (another.1 key)
-
-      is_start : (y : NodeView) → IsNode p all y → HasKeyOf who y → IsStart y
-      is_start (Somebody other) is key = ap Somebody (same_key other ((exact other).0 is) key)
-      is_start (ClusterRoleIn role scope) is key = elim key [ ]
-      is_start (OwnRole role) is key = elim key [ ]
-      is_start (EverythingIn scope) is key = elim key [ ]
-
-      start_at : (j : ℕ) (y : NodeView) → slice_get ys j ≡ Some y → Contains starts j ↔ IsStart y
-      start_at j y at = (
-        λ c. (let has = (keyed j).0 c in
-            let here : has.0 ≡ y = same_Some has.0 y (sym has.1 ∙ at) in
-            is_start y (is_node y (among ys j y at)) (subst (HasKeyOf who) here has.2)),
-        λ is. (keyed j).1 (y, at, subst (HasKeyOf who) (sym is) refl),
-      )
-
-      pub by_graph : IsGraphBy Goes IsStart ys g starts
-      by_graph = record {
-        len = graph.len;
-        edges = λ i j x y at there. (
-          λ e. (is_node y (among ys j y there), (graph.edges i j x y at there).0 e),
-          λ goes. (graph.edges i j x y at there).1 goes.1,
-        );
-        start_at = start_at;
-        start_in = λ y is. (are.exact y).1 (subst (λ (z : NodeView). IsNode p all z × IsNamedOf listed names z) (sym is) ((exact who).1 (inl refl), tt));
-        closed = λ x y c goes. (are.exact y).1 (goes.0, named x y (is_node x c) goes.0 goes.1);
-        ordered = are.ordered;
-      }
-
-      module _ (stops : List (Option Stop)) (found : AreStops g starts stops) where
-        abbrev stop_at : ℕ → Option Stop
-        stop_at j = get_or stops j None
-
-        pub linked : AreLinked p steps ys stops
-        linked j s at led =
-            let m = one_less s.edges led in
-            let is = stop_is g starts stops found j s at in
-            let least = subst (λ (n : ℕ). IsLeastBefore g starts n j s.before) m.1 is.before in
-            let x = at_low ys s.before (Somebody who) (within Goes IsStart ys g starts by_graph m.0 s.before least.0.leads) in
-            let y = at_low ys j (Somebody who) (within Goes IsStart ys g starts by_graph s.edges j is.nearest.leads) in
-            (x.0, y.0, x.1, y.1, (graph.edges s.before j x.0 y.0 x.1 y.1).0 least.1)
-
-        module _ (order : List ℕ) (ordered : AreInOrder stops order) (xs : List PathView) (paths : ArePathsAt p steps ys stops order xs) where
-          is_path : (x : PathView) (j : ℕ) → IsPathAt p steps ys stops j x → IsPath p all steps (Somebody who) x
-          is_path x j at =
-              let s = at.stop in
-              let m = one_less s.edges at.led in
-              let is = stop_is g starts stops found j s at.at in
-              let least = subst (λ (n : ℕ). IsLeastBefore g starts n j s.before) m.1 is.before in
-              record {
-                others = m.0;
-                count = at.count ∙ m.1 ∙ (let more : suc m.0 ≡ m.0 + 1 = omega arith in more);
-                fewest = subst (λ (n : ℕ). IsFewest Goes IsStart n x.node) (sym at.count) (fewest Goes IsStart ys g starts by_graph s.edges j x.node at.node is.nearest);
-                before = before Goes IsStart ys g starts by_graph m.0 j s.before x.node x.before at.node at.before least;
-                step = at.step;
-                reason = at.reason;
-              }
-
-          some_path : (n j : ℕ) (y : NodeView) → y ≢ Somebody who → slice_get ys j ≡ Some y → IsReachedIn g starts n j → Any (λ x. x.node ≡ y) xs
-          some_path n j y differ at way =
-              let low : j < length stops = (let inside = within Goes IsStart ys g starts by_graph n j way in let nodes = graph.len in let len = found.len in omega (arith, inside, nodes, len)) in
-              let some = stop_there g starts stops found n j low way in
-              elim (paths.has j ((ordered.exact j).1 (subst (λ (o : Option Stop). IsSome o) (sym some.1) refl))) [
-                | inl unled ↦ absurd (differ (leads Goes IsStart ys g starts by_graph 0 j y at (subst (λ (k : ℕ). IsReachedIn g starts k j) (unled some.0 some.1) (stop_is g starts stops found j some.0 some.1).nearest.leads)))
-                | inr path ↦ (path.0, path.1, path.2, path.3, same_Some path.1.node y (sym path.4.node ∙ at))
-              ]
-
-          pub are_paths : ArePaths p all steps (Somebody who) xs
-          are_paths = record {
-            each = λ k d low. (let x = get_or xs k d in
-                let w = paths.each x (k, low, get_or_default xs k x d low) in
-                is_path x w.0 w.2);
-            complete = λ n y differ comes. (let r = reached Goes IsStart ys g starts by_graph n y comes in some_path n r.0 y differ r.1 r.2);
-            ordered = paths.ordered;
+    module _ (order : List ℕ) (ordered : AreInOrder stops order) (xs : List PathView) (paths : ArePathsAt p steps ys stops order xs) where
+      is_path : (x : PathView) (j : ℕ) → IsPathAt p steps ys stops j x → IsPath p all steps (Somebody who) x
+      is_path x j at =
+          let s = at.stop in
+          let m = one_less s.edges at.led in
+          let is = stop_is g starts stops found j s at.at in
+          let least = subst (λ (n : ℕ). IsLeastBefore g starts n j s.before) m.1 is.before in
+          record {
+            others = m.0;
+            count = at.count ∙ m.1 ∙ (let more : suc m.0 ≡ m.0 + 1 = omega arith in more);
+            fewest = subst (λ (n : ℕ). IsFewest Goes IsStart n x.node) (sym at.count) (fewest Goes IsStart ys g starts by_graph s.edges j x.node at.node is.nearest);
+            before = before Goes IsStart ys g starts by_graph m.0 j s.before x.node x.before at.node at.before least;
+            step = at.step;
+            reason = at.reason;
           }
+
+      some_path : (n j : ℕ) (y : NodeView) → y ≢ Somebody who → slice_get ys j ≡ Some y → IsReachedIn g starts n j → Any (λ x. x.node ≡ y) xs
+      some_path n j y differ at way =
+          let low : j < length stops = (let inside = within Goes IsStart ys g starts by_graph n j way in let nodes = graph.len in let len = found.len in omega (arith, inside, nodes, len)) in
+          let some = stop_there g starts stops found n j low way in
+          elim (paths.has j ((ordered.exact j).1 (subst (λ (o : Option Stop). IsSome o) (sym some.1) refl))) [
+            | inl unled ↦ absurd (differ (leads Goes IsStart ys g starts by_graph 0 j y at (subst (λ (k : ℕ). IsReachedIn g starts k j) (unled some.0 some.1) (stop_is g starts stops found j some.0 some.1).nearest.leads)))
+            | inr path ↦ (path.0, path.1, path.2, path.3, same_Some path.1.node y (sym path.4.node ∙ at))
+          ]
+
+      pub are_paths : ArePaths p all steps (Somebody who) xs
+      are_paths = record {
+        each = λ k d low. (let x = get_or xs k d in
+            let w = paths.each x (k, low, get_or_default xs k x d low) in
+            is_path x w.0 w.2);
+        complete = λ n y differ comes. (let r = reached Goes IsStart ys g starts by_graph n y comes in some_path n r.0 y differ r.1 r.2);
+        ordered = paths.ordered;
+      }

@@ -221,37 +221,3 @@ module _ (role : Role) (a : PrintedNodes) where
 
   pub role_nowhere : ¬ IsSome (get text_cmp a (node_text (EverythingIn (Some role.namespace)))) → AddsNodes (IsRoleThere a role) a a
   role_nowhere none = adds_nothing (IsRoleThere a role) a (λ y is. none is.1)
-
--- ---- the cluster roles with one of these names, role by role
-
-module _ {R : Type 0} (f : R → ClusterRole) (names : List Text) where
-  -- exactly the cluster roles so far that have one of these names
-  abbrev pub AreNamed : List ClusterRole → List R → Type 0
-  AreNamed passed xs = (role : ClusterRole) → Contains (map f xs) role ↔ IsNamedRole passed names role
-
-  pub named_none : (xs : List R) → xs ≡ [] → AreNamed [] xs
-  named_none xs empty = subst (λ (ys : List R). AreNamed [] ys) (sym empty) (λ role. (λ c. absurd (omega (arith, c.1)), λ is. absurd (omega (arith, is.0.1))))
-
-  module _ (passed : List ClusterRole) (role : ClusterRole) (xs : List R) (are : AreNamed passed xs) where
-    pub named_more : (x : R) (ys : List R) → f x ≡ role → ys ≡ xs ++ x ∷ [] → Contains names role.name → AreNamed (passed ++ role ∷ []) ys
-    named_more x ys is pushed named other = (
-      λ c. elim (Contains-append_cases (map f xs) (f x ∷ []) other (subst (λ (rs : List ClusterRole). Contains rs other) (ap (map f) pushed ∙ map_push f xs x) c)) [
-        | inl old ↦ (let both = (are other).0 old in (Contains-append_left passed (role ∷ []) other both.0, both.1))
-        | inr own ↦ (let same = sym is ∙ one_element (f x) other own in
-            (Contains-append_right passed (role ∷ []) other (is_element role other same), subst (λ (r : ClusterRole). Contains names r.name) same named))
-      ],
-      λ both. subst (λ (rs : List ClusterRole). Contains rs other) (sym (ap (map f) pushed ∙ map_push f xs x))
-          (elim (Contains-append_cases passed (role ∷ []) other both.0) [
-            | inl before ↦ Contains-append_left (map f xs) (f x ∷ []) other ((are other).1 (before, both.1))
-            | inr own ↦ Contains-append_right (map f xs) (f x ∷ []) other (is_element (f x) other (is ∙ one_element role other own))
-          ]),
-    )
-
-    pub named_same : ¬ Contains names role.name → AreNamed (passed ++ role ∷ []) xs
-    named_same none other = (
-      λ c. (let both = (are other).0 c in (Contains-append_left passed (role ∷ []) other both.0, both.1)),
-      λ both. elim (Contains-append_cases passed (role ∷ []) other both.0) [
-        | inl before ↦ (are other).1 (before, both.1)
-        | inr own ↦ absurd (none (subst (λ (r : ClusterRole). Contains names r.name) (sym (one_element role other own)) both.1))
-      ],
-    )

@@ -55,10 +55,6 @@ abbrev mark : Text → ℕ
 mark [] = 0
 mark (b ∷ t) = b
 
--- words with different marks differ
-unlike : (w a b : Text) → w ≡ a → w ≡ b → mark a ≢ mark b → ⊥
-unlike w a b is other differ = differ (ap mark (sym is ∙ other))
-
 -- the part of a word after its mark
 abbrev behind : Text → Text
 behind [] = []

@@ -6,15 +6,14 @@ use Rattle.rbac_terms.specs.Text.{Text}
 use Rattle.rbac_terms.proofs.Reading.{contains_read}
 use Rattle.rbac_model.proofs.OwnWords.{any_from}
 use Rattle.rbac_model.proofs.Stairs.{read_contains}
-use Rattle.rbac_model.specs.Policies.{IsPolicy, PolicyView}
-use Rattle.rbac_paths.specs.Having.{AreHoldings, HoldingView}
+use Rattle.rbac_model.specs.Policies.{PolicyView}
+use Rattle.rbac_paths.specs.Having.{HoldingView}
 use Rattle.rbac_paths.specs.Joints.{DecideOn, IsAboutNode, IsNobody}
 use Rattle.rbac_paths.specs.Nodes.{NodeView, Somebody, ClusterRoleIn, OwnRole, EverythingIn}
 use Rattle.rbac_paths.specs.TakingOver.{BindsNode, MayGoOn, HasAll, IsUntold, IsUntoldBy, TakesByStep, TakesOver, WritesRoles}
 use Rattle.rbac_paths.specs.Told.{HoldingsBind, HoldingsHaveAll, HoldingsTake, HoldingsTell, IsFirstTold, IsUntoldOf}
 use Rattle.rbac_steps.specs.declared.steps.Step.{Step}
 use Rattle.rbac_steps.specs.declared.steps.Step.TheVariants.{Bind}
-use Rattle.rbac_paths.proofs.AllowedBy.{by_holdings, in_holdings}
 
 either : {A B C D : Type 0} → (A → C) → (B → D) → A ⊎ B → C ⊎ D
 either f g (inl a) = inl (f a)
@@ -63,46 +62,18 @@ module _ (p : PolicyView) (x : NodeView) (hs : List HoldingView) (steps : List S
   told_by : (s : Step) → TakesByStep p steps x s y → HoldingsTell steps hs y s
   told_by s takes = ((decide s y takes.among (inl refl)).1 takes.can, λ writes untold. takes.told writes (is_untold untold))
 
--- all holdings of a node decide what it takes over
-pub all_decide : (p : PolicyView) → IsPolicy p → (x : NodeView) (hs : List HoldingView) → AreHoldings p x hs → (steps : List Step) (y : NodeView) → DecideOn p steps x hs (IsAboutNode y)
-all_decide p ok x hs are steps y step z among about = (by_holdings p ok x hs are step z, in_holdings p ok x hs are step z)
-
--- none of the first `count` steps has the property
-abbrev pub NoneTo : (Step → Type 0) → List Step → ℕ → Type 0
-NoneTo P steps count = (k : ℕ) (s : Step) → k < count → slice_get steps k ≡ Some s → ¬ P s
-
-module _ (P : Step → Type 0) (steps : List Step) where
-  pub none_to_more : (k : ℕ) (s : Step) → slice_get steps k ≡ Some s → ¬ P s → NoneTo P steps k → NoneTo P steps (k + 1)
-  none_to_more k s here isnt none i other low there is = elim (cases_lt i k) [
-    | inl less ↦ none i other less there is
-    | inr high ↦ (let same : i ≡ k = omega (arith, low, high) in
-        let one : other ≡ s = same_Some other s (sym (subst (λ (n : ℕ). slice_get steps n ≡ Some other) same there) ∙ here) in
-        isnt (subst P one is))
-  ]
-
-  pub some_is : (k : ℕ) (s : Step) → slice_get steps k ≡ Some s → P s → Any P steps
-  some_is k s here is = any_from P steps s (contains_read steps k s here) is
-
-  pub none_is : (count : ℕ) → length steps ≤ count → NoneTo P steps count → ¬ Any P steps
-  none_is count all none a =
-      let at = read_contains steps a.1 (a.0, a.2, a.3) in
-      none at.0 a.1 (let low = slice_get_within steps at.0 a.1 at.1 in omega (arith, low, all)) at.1 a.4
-
--- the step is `bind` or `escalate`, and takes over everything in the scope
-abbrev pub TakesAll : List HoldingView → Option Text → Step → Type 0
-TakesAll hs scope s = WritesRoles s × HoldingsTake s hs (EverythingIn scope)
-
--- the step is `bind`, and takes over the node
-abbrev pub Binds : List HoldingView → NodeView → Step → Type 0
-Binds hs y s = (s ≡ Bind) × HoldingsTake s hs y
-
 -- by none of the first `count` steps the node is taken over
 abbrev pub ToldNoneTo : List Step → List HoldingView → NodeView → ℕ → Type 0
-ToldNoneTo steps hs y count = NoneTo (HoldingsTell steps hs y) steps count
+ToldNoneTo steps hs y count = (k : ℕ) (s : Step) → k < count → slice_get steps k ≡ Some s → ¬ HoldingsTell steps hs y s
 
 module _ (steps : List Step) (hs : List HoldingView) (y : NodeView) where
   pub none_more : (k : ℕ) (s : Step) → slice_get steps k ≡ Some s → ¬ HoldingsTell steps hs y s → ToldNoneTo steps hs y k → ToldNoneTo steps hs y (k + 1)
-  none_more = none_to_more (HoldingsTell steps hs y) steps
+  none_more k s here isnt none i other low there is = elim (cases_lt i k) [
+    | inl less ↦ none i other less there is
+    | inr high ↦ (let same : i ≡ k = omega (arith, low, high) in
+        let one : other ≡ s = same_Some other s (sym (subst (λ (n : ℕ). slice_get steps n ≡ Some other) same there) ∙ here) in
+        isnt (subst (HoldingsTell steps hs y) one is))
+  ]
 
   module _ (p : PolicyView) (x : NodeView) (decide : DecideOn p steps x hs (IsAboutNode y)) where
     pub takes_none : (count : ℕ) → ((k : ℕ) (s : Step) → slice_get steps k ≡ Some s → k < count) → ToldNoneTo steps hs y count → ¬ TakesOver p steps x y

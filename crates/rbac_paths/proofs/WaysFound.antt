@@ -3,27 +3,26 @@ use Rattle.std.proofs.Common.{◌≡◌, ◌≢◌, ◌↔◌, ◌∙◌, ◌+�
 use Rattle.std.proofs.lemmas.List.{get_or_default}
 use Rattle.std.proofs.lemmas.Option.{same_Some}
 use Rattle.rbac_terms.specs.Principals.{Who}
-use Rattle.rbac_terms.specs.Text.{Text}
-use Rattle.rbac_model.specs.Policies.{IsPolicy, PolicyView}
+use Rattle.rbac_model.specs.Policies.{PolicyView}
 use Rattle.rbac_ways.specs.Ways.{AreInOrder, AreStops, GraphView, IsEdge, IsLeastBefore, IsReachedIn}
 use Rattle.rbac_ways.specs.declared.graph.Stop.{Stop}
 use Rattle.rbac_paths.specs.Access.{AccessView, AllowsAccess}
 use Rattle.rbac_paths.specs.Aims.{ToBeAllowed, ToTakeOver}
-use Rattle.rbac_paths.specs.BoundNames.{AreBoundNames}
-use Rattle.rbac_paths.specs.NodeLists.{AreNodes, IsNamedOf, IsNode}
+use Rattle.rbac_paths.specs.NodeLists.{IsNode}
 use Rattle.rbac_paths.specs.Nodes.{NodeView, Somebody, ClusterRoleIn, OwnRole, EverythingIn}
 use Rattle.rbac_paths.specs.Paths.{GoesTo, IsBeforeOn, IsFewest, IsGraphOf, LeadsTo}
 use Rattle.rbac_paths.specs.Reasons.{IsReason}
+use Rattle.rbac_paths.specs.Searching.{AreEnough}
 use Rattle.rbac_paths.specs.Told.{IsFirstTold}
-use Rattle.rbac_paths.specs.Tracing.{IsAt}
-use Rattle.rbac_paths.specs.TracingWays.{AllowAtEnds, AreLinkedOn, AreWaysAt, IsSomebody, IsToldAt}
+use Rattle.rbac_paths.specs.Tracing.{IsAt, IsSomebody}
+use Rattle.rbac_paths.specs.TracingWays.{AllowAtEnds, AreLinkedOn, AreWaysAt, IsToldAt}
 use Rattle.rbac_paths.specs.WaysTo.{AreWays, GoesBack, IsComeTo, IsOnward, IsPrincipal, IsWayOn, NextView, WayView}
 use Rattle.rbac_steps.specs.declared.steps.Step.{Step}
+use Rattle.rbac_paths.proofs.Enough.{graph_by}
 use Rattle.rbac_paths.proofs.GraphWays.{IsGraphBy, among, at_low, before, fewest, leads, one_less, one_or_none, one_place, reached, stop_is, stop_there, within}
-use Rattle.rbac_paths.proofs.PathsFound.{named}
 use Rattle.rbac_paths.proofs.Tracing.{is_here, matched, matched_none, matched_some}
 
-module _ (p : PolicyView) (ok : IsPolicy p) (all : List Who) (listed names : List Text) (bound : AreBoundNames p.held listed names) (ys : List NodeView) (are : AreNodes p all listed names ys) (steps : List Step) (asked : AccessView) where
+module _ (p : PolicyView) (all : List Who) (steps : List Step) (ys : List NodeView) (enough : AreEnough p all steps ys) (asked : AccessView) where
   abbrev Goes : NodeView → NodeView → Type 0
   Goes x y = GoesTo p all steps x y
 
@@ -32,13 +31,6 @@ module _ (p : PolicyView) (ok : IsPolicy p) (all : List Who) (listed names : Lis
 
   abbrev Ends : NodeView → Type 0
   Ends y = AllowsAccess p asked y
-
-  is_node : (y : NodeView) → Contains ys y → IsNode p all y
-  is_node y c = ((are.exact y).0 c).0
-
-  -- each node that a listed node takes over is listed
-  closed : (x y : NodeView) → Contains ys x → Goes x y → Contains ys y
-  closed x y c goes = (are.exact y).1 (goes.0, named p ok all listed names bound ys are steps x y (is_node x c) goes.0 goes.1)
 
   -- ---- the search from users and groups
 
@@ -52,21 +44,14 @@ module _ (p : PolicyView) (ok : IsPolicy p) (all : List Who) (listed names : Lis
     start_of (OwnRole role) is some = elim some [ ]
     start_of (EverythingIn scope) is some = elim some [ ]
 
+    start_at : (j : ℕ) (y : NodeView) → slice_get ys j ≡ Some y → Contains starts j ↔ IsStart y
+    start_at j y at = (
+      λ c. start_of y (enough.nodes y (among ys j y at)) (is_here IsSomebody ys j y at ((somebody j).0 c)),
+      λ is. (somebody j).1 (y, at, subst IsSomebody (sym is.2) tt),
+    )
+
     pub from_graph : IsGraphBy Goes IsStart ys g starts
-    from_graph = record {
-      len = graph.len;
-      edges = λ i j x y at there. (
-        λ e. (is_node y (among ys j y there), (graph.edges i j x y at there).0 e),
-        λ goes. (graph.edges i j x y at there).1 goes.1,
-      );
-      start_at = λ j y at. (
-        λ c. start_of y (is_node y (among ys j y at)) (is_here IsSomebody ys j y at ((somebody j).0 c)),
-        λ is. (somebody j).1 (y, at, subst IsSomebody (sym is.2) tt),
-      );
-      start_in = λ y is. (are.exact y).1 (subst (λ (z : NodeView). IsNode p all z × IsNamedOf listed names z) (sym is.2) (is.1, tt));
-      closed = closed;
-      ordered = are.ordered;
-    }
+    from_graph = graph_by p all steps ys enough g graph IsStart starts start_at (λ y is. subst (Contains ys) (sym is.2) (enough.somebody is.0 is.1))
 
     module _ (come : List (Option Stop)) (met : AreStops g starts come) where
       pub come_to : (j : ℕ) (y : NodeView) → slice_get ys j ≡ Some y → IsSome (get_or come j None) → IsComeTo p all steps y
@@ -94,7 +79,7 @@ module _ (p : PolicyView) (ok : IsPolicy p) (all : List Who) (listed names : Lis
   -- all nodes on a way from a listed node are listed
   leads_in : (n : ℕ) (x : NodeView) → Contains ys x → LeadsTo Back Ends n x → LeadsTo BackTo IsEnd n x
   leads_in zero x c is = (c, is)
-  leads_in (suc n) x c (y, l, goes) = (y, leads_in n y (closed x y c goes) l, (c, goes))
+  leads_in (suc n) x c (y, l, goes) = (y, leads_in n y (enough.closed x y c goes) l, (c, goes))
 
   leads_out : (n : ℕ) (x : NodeView) → LeadsTo BackTo IsEnd n x → LeadsTo Back Ends n x
   leads_out zero x is = is.1
@@ -110,7 +95,7 @@ module _ (p : PolicyView) (ok : IsPolicy p) (all : List Who) (listed names : Lis
   before_out n x y c d b = record {
     fewest = fewest_out n y d b.fewest;
     goes = b.goes.1;
-    first = λ m less few goes. b.first m less (fewest_in n m (closed x m c goes) few) (c, goes);
+    first = λ m less few goes. b.first m less (fewest_in n m (enough.closed x m c goes) few) (c, goes);
   }
 
   module _ (g : GraphView) (graph : IsGraphOf p steps ys g) (back : GraphView) (len : length back.takes ≡ length g.takes) (turned : (i j : ℕ) → IsEdge back i j ↔ IsEdge g j i)
@@ -119,7 +104,7 @@ module _ (p : PolicyView) (ok : IsPolicy p) (all : List Who) (listed names : Lis
     back_graph = record {
       len = len ∙ graph.len;
       edges = λ i j y x at there. (
-        λ e. (among ys j x there, (is_node y (among ys i y at), (graph.edges j i x y there at).0 ((turned i j).0 e))),
+        λ e. (among ys j x there, (enough.nodes y (among ys i y at), (graph.edges j i x y there at).0 ((turned i j).0 e))),
         λ goes. (turned i j).1 ((graph.edges j i x y there at).1 goes.1.1),
       );
       start_at = λ j y at. (
@@ -128,7 +113,7 @@ module _ (p : PolicyView) (ok : IsPolicy p) (all : List Who) (listed names : Lis
       );
       start_in = λ y is. is.0;
       closed = λ y x c goes. goes.0;
-      ordered = are.ordered;
+      ordered = enough.ordered;
     }
 
     module _ (stops : List (Option Stop)) (found : AreStops back ends stops) where

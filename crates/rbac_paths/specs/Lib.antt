@@ -19,6 +19,8 @@ pub mod Powers
 pub mod Principals
 pub mod Reasons
 pub mod Rows
+pub mod Searching
+pub mod Seeking
 pub mod SharedWords
 pub mod Steps
 pub mod Takeovers

@@ -20,13 +20,16 @@ HasKeyOf who (ClusterRoleIn role scope) = ⊥
 HasKeyOf who (OwnRole role) = ⊥
 HasKeyOf who (EverythingIn scope) = ⊥
 
+-- the node is a user or a group
+abbrev pub IsSomebody : NodeView → Type 0
+IsSomebody (Somebody who) = Unit {0}
+IsSomebody (ClusterRoleIn role scope) = ⊥
+IsSomebody (OwnRole role) = ⊥
+IsSomebody (EverythingIn scope) = ⊥
+
 -- the node at that place has the property
 abbrev pub IsAt : (NodeView → Type 0) → List NodeView → ℕ → Type 0
 IsAt Is ys j = (y : NodeView) × (slice_get ys j ≡ Some y) × Is y
-
--- the node at that place is a user or a group with the key of this principal
-abbrev pub HasKeyAt : List NodeView → Who → ℕ → Type 0
-HasKeyAt ys who j = IsAt (HasKeyOf who) ys j
 
 -- the node at place i takes over the node at place j
 abbrev pub TakesAt : PolicyView → List Step → List NodeView → ℕ → ℕ → Type 0

@@ -6,19 +6,12 @@ use Rattle.rbac_model.specs.Policies.{PolicyView}
 use Rattle.rbac_ways.specs.declared.graph.Stop.{Stop}
 use Rattle.rbac_paths.specs.Access.{AccessView, AllowsAccess}
 use Rattle.rbac_paths.specs.Aims.{ToBeAllowed, ToTakeOver}
-use Rattle.rbac_paths.specs.Nodes.{NodeView, Somebody, ClusterRoleIn, OwnRole, EverythingIn}
+use Rattle.rbac_paths.specs.Nodes.{NodeView}
 use Rattle.rbac_paths.specs.Reasons.{IsReason}
 use Rattle.rbac_paths.specs.Told.{IsFirstTold}
 use Rattle.rbac_paths.specs.Tracing.{AreToldAt, IsAt, TakesAt}
 use Rattle.rbac_paths.specs.WaysTo.{IsShorter, WayView}
 use Rattle.rbac_steps.specs.declared.steps.Step.{Step}
-
--- the node is a user or a group
-abbrev pub IsSomebody : NodeView → Type 0
-IsSomebody (Somebody who) = Unit {0}
-IsSomebody (ClusterRoleIn role scope) = ⊥
-IsSomebody (OwnRole role) = ⊥
-IsSomebody (EverythingIn scope) = ⊥
 
 -- each node from which a way of one edge or more leads on takes over the node after it on the way
 abbrev pub AreLinkedOn : PolicyView → List Step → List NodeView → List (Option Stop) → Type 0

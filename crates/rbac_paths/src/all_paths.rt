@@ -1,34 +1,30 @@
 //! The nodes that a user or a group comes to.
 
-ghost use Rattle.std.specs.Prelude.{◌≡◌, ◌≢◌, ◌↔◌, ℕ, All, AllPairs, Contains, IfOk, IsTrue};
-ghost use Rattle.std.specs.Prelude.{MatchOption, None, Some, length, map, slice_index_or};
-ghost use Rattle.std.specs.declared.cmp.Ordering.TheVariants.{Less};
-ghost use Rattle.rbac_terms.specs.Text.{text_cmp};
+ghost use Rattle.std.specs.Prelude.{◌≡◌, ◌≢◌, IfOk, MatchOption, None, Some, map};
+ghost use Rattle.std.specs.Prelude.{slice_index_or};
 ghost use Rattle.rbac_model.specs.Lists.{IsAscendingBy};
 ghost use Rattle.rbac_model.specs.Policies.{IsPolicy};
 ghost use Rattle.rbac_model.specs.Unions.{who_texts};
 ghost use Rattle.rbac_ways.specs.Ways.{AreInOrder};
 ghost use Rattle.rbac_paths.specs.Aims.{ToTakeOver};
-ghost use Rattle.rbac_paths.specs.Deciding.{ArePlaces, AreTakingGrants};
 ghost use Rattle.rbac_paths.specs.Joints.{DecidesOf};
-ghost use Rattle.rbac_paths.specs.NodeLists.{node_text};
 ghost use Rattle.rbac_paths.specs.Nodes.{node_of};
 ghost use Rattle.rbac_paths.specs.Paths.{ArePathsOf};
 ghost use Rattle.rbac_paths.specs.Reasons.{IsReason, reason_view};
+ghost use Rattle.rbac_paths.specs.Searching.{AreJoined};
 ghost use Rattle.rbac_paths.specs.TakingOver.{TakesOver};
 ghost use Rattle.rbac_paths.specs.Told.{HasItsRole, IsFirstTold};
-ghost use Rattle.rbac_paths.specs.Tracing.{AreLinked, ArePathsAt, HasKeyAt, HasKeyOf};
-ghost use Rattle.rbac_paths.specs.Tracing.{IsPathAt, IsUnled};
+ghost use Rattle.rbac_paths.specs.Tracing.{AreLinked, ArePathsAt, IsUnled};
 
-use crate::bound_names::bound_names;
 use crate::deciding::{Deciding, deciding_at};
-use crate::graph::{NodeGraph, graph_of};
+use crate::graph::NodeGraph;
 use crate::holding::rule_of_all;
 use crate::node::Node;
-use crate::nodes::nodes_of;
 use crate::principals::principals_with;
 use crate::reason::{Reason, reason_by};
-use crate::told::{StepRows, first_told, rows_of_steps};
+use crate::searching::search_of;
+use crate::seeking::{Sought, places_of};
+use crate::told::{StepRows, first_told};
 use rbac_model::Policy;
 use rbac_steps::Step;
 use rbac_subjects::SubjectIndex;
@@ -99,42 +95,13 @@ pub fn paths<'p>(
     ensures { IfOk result (λ found.
         ArePathsOf policy.now principals.now steps.now who.now found.items) }
 {
-    let rows = rows_of_steps(alloc, steps)?;
-    let rows = rows.as_slice();
     let all = principals_with(alloc, principals, who)?;
-    let names = bound_names(alloc, policy)?;
-    let listed = names.listed.as_slice();
-    let names = names.all.as_slice();
-    let nodes = nodes_of(alloc, policy, all.as_slice(), listed, names)?;
-    let nodes = nodes.as_slice();
-    let made = graph_of(alloc, policy, index, rows, nodes)?;
-    let starts = places_of(alloc, nodes, who)?;
-    let reached = shortest_ways(alloc, &made.graph, starts.as_slice())?;
-    paths_by(alloc, policy, index, rows, nodes, &made, &reached)
-}
-
-// The places of the users and groups among these nodes that have the key of `who`.
-fn places_of(alloc: Global, nodes: &[Node<'_>], who: &Principal) -> Result<Vec<usize>, AllocError>
-    ensures { IfOk result (λ places. (j : ℕ)
-        → Contains places.items j ↔ HasKeyAt (map node_of nodes.now) who.now j) }
-{
-    let mut places = Vec::new(alloc);
-    for (place, node) in nodes.iter().enumerate() {
-        if has_key_of(*node, who) {
-            places.push(place)?;
-        }
-    }
-    Ok(places)
-}
-
-// Whether a node is a user or a group with the key of `who`.
-fn has_key_of(node: Node<'_>, who: &Principal) -> bool
-    ensures { IsTrue result ↔ HasKeyOf who.now (node_of node.entry) }
-{
-    match node {
-        Node::Somebody(other) => other.key() == who.key(),
-        _ => false,
-    }
+    let search = search_of(alloc, policy, index, all.as_slice(), steps)?;
+    let rows = search.rows.as_slice();
+    let nodes = search.nodes.as_slice();
+    let starts = places_of(alloc, nodes, Sought::KeyOf(who))?;
+    let reached = shortest_ways(alloc, &search.joined.graph, starts.as_slice())?;
+    paths_by(alloc, policy, index, rows, nodes, &search.joined, &reached)
 }
 
 // The paths to the nodes that were reached. Most paths have the same node before as the path above
@@ -150,12 +117,8 @@ fn paths_by<'p>(
 ) -> Result<Vec<Path<'p>>, AllocError>
     requires policy { IsPolicy policy.now }
     requires index { index.now ≡ policy.now }
-    requires held { All (HasItsRole policy.now.held) (map node_of nodes.now) }
-    requires grants { AreTakingGrants policy.now steps.now made.now.grants.items }
-    requires places { ArePlaces policy.now made.now.grants.items (map node_of nodes.now) (length nodes.now)
+    requires joined { AreJoined policy.now steps.now nodes.now made.now.grants.items
         made.now.places.items }
-    requires ordered { AllPairs (λ y z. text_cmp (node_text y) (node_text z) ≡ Less)
-        (map node_of nodes.now) }
     requires linked { AreLinked policy.now steps.now (map node_of nodes.now) reached.now.stops.items }
     requires order { AreInOrder reached.now.stops.items reached.now.order.items }
     ensures { IfOk result (λ found. ArePathsAt policy.now steps.now (map node_of nodes.now)

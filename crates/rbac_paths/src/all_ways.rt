@@ -1,37 +1,32 @@
 //! The nodes that come to a request, and the ways there.
 
-ghost use Rattle.std.specs.Prelude.{◌≡◌, ◌≢◌, ◌↔◌, ℕ, All, AllPairs, Contains, IfOk, IsTrue};
-ghost use Rattle.std.specs.Prelude.{IsSome, MatchOption, None, length, map, slice_index_or};
-ghost use Rattle.std.specs.declared.cmp.Ordering.TheVariants.{Less};
-ghost use Rattle.rbac_terms.specs.Principals.{who_key};
-ghost use Rattle.rbac_terms.specs.Text.{text_cmp};
+ghost use Rattle.std.specs.Prelude.{◌≡◌, ◌≢◌, ◌↔◌, All, IfOk, IsTrue};
+ghost use Rattle.std.specs.Prelude.{IsSome, MatchOption, None, map, slice_index_or};
 ghost use Rattle.rbac_model.specs.Lists.{IsAscendingBy};
 ghost use Rattle.rbac_model.specs.Policies.{IsPolicy};
 ghost use Rattle.rbac_model.specs.Unions.{who_texts};
 ghost use Rattle.rbac_ways.specs.Ways.{AreInOrder};
 ghost use Rattle.rbac_paths.specs.Access.{AllowsAccess, access_of};
-ghost use Rattle.rbac_paths.specs.Deciding.{ArePlaces, AreTakingGrants};
 ghost use Rattle.rbac_paths.specs.Joints.{IsDeciding};
-ghost use Rattle.rbac_paths.specs.NodeLists.{node_text};
 ghost use Rattle.rbac_paths.specs.Nodes.{node_of};
+ghost use Rattle.rbac_paths.specs.Searching.{AreJoined};
 ghost use Rattle.rbac_paths.specs.Told.{HasItsRole};
-ghost use Rattle.rbac_paths.specs.Tracing.{IsAt};
 ghost use Rattle.rbac_paths.specs.TracingWays.{AllowAtEnds, AreLinkedOn, AreWaysAt, IsOwnWay};
-ghost use Rattle.rbac_paths.specs.TracingWays.{IsSomebody, IsWayAt};
+ghost use Rattle.rbac_paths.specs.TracingWays.{IsWayAt};
 ghost use Rattle.rbac_paths.specs.WaysTo.{AreWaysTo};
 
 use crate::access::Access;
 use crate::aim::Aim;
 use crate::all_paths::last_step;
 use crate::allowed::places_of_allowing;
-use crate::bound_names::bound_names;
 use crate::deciding::{Deciding, deciding_at};
-use crate::graph::{NodeGraph, graph_of};
+use crate::graph::NodeGraph;
 use crate::holding::rule_of_all;
 use crate::node::Node;
-use crate::nodes::nodes_of;
 use crate::reason::{Reason, reason_of};
-use crate::told::{StepRows, rows_of_steps};
+use crate::searching::search_of;
+use crate::seeking::{Sought, places_of};
+use crate::told::StepRows;
 use rbac_model::Policy;
 use rbac_steps::Step;
 use rbac_subjects::SubjectIndex;
@@ -107,58 +102,34 @@ pub fn ways_to<'p>(
     ensures { IfOk result (λ found.
         AreWaysTo policy.now principals.now steps.now (access_of access.entry) found.items) }
 {
-    let rows = rows_of_steps(alloc, steps)?;
-    let rows = rows.as_slice();
     let all = each_of(alloc, principals)?;
-    let names = bound_names(alloc, policy)?;
-    let listed = names.listed.as_slice();
-    let names = names.all.as_slice();
-    let nodes = nodes_of(alloc, policy, all.as_slice(), listed, names)?;
-    let nodes = nodes.as_slice();
-    let made = graph_of(alloc, policy, index, rows, nodes)?;
-    let starts = places_of_somebody(alloc, nodes)?;
-    let come = shortest_ways(alloc, &made.graph, starts.as_slice())?;
+    let search = search_of(alloc, policy, index, all.as_slice(), steps)?;
+    let rows = search.rows.as_slice();
+    let nodes = search.nodes.as_slice();
+    let starts = places_of(alloc, nodes, Sought::Somebody)?;
+    let come = shortest_ways(alloc, &search.joined.graph, starts.as_slice())?;
     let ends = places_of_allowing(alloc, policy, index, nodes, access)?;
-    let back = made.graph.turned(alloc)?;
+    let back = search.joined.graph.turned(alloc)?;
     let reached = shortest_ways(alloc, &back, ends.as_slice())?;
     let come = come.stops.as_slice();
     ways_by(
-        alloc, policy, index, rows, access, nodes, &made, come, &reached,
+        alloc,
+        policy,
+        index,
+        rows,
+        access,
+        nodes,
+        &search.joined,
+        come,
+        &reached,
     )
 }
 
 // These users and groups, each by reference.
 fn each_of<'p>(alloc: Global, principals: &'p [Principal]) -> Result<Vec<&'p Principal>, AllocError>
-    ensures same { IfOk result (λ all. map (λ each. each.now) all.items ≡ principals.now) }
-    ensures apart { IsAscendingBy who_texts principals.now
-        → IfOk result (λ all. AllPairs (λ a b. who_key a.now ≢ who_key b.now) all.items) }
+    ensures { IfOk result (λ all. map (λ each. each.now) all.items ≡ principals.now) }
 {
-    let mut all = Vec::with_capacity(alloc, principals.len())?;
-    for who in principals {
-        all.push(who)?;
-    }
-    Ok(all)
-}
-
-// The places of the users and groups among these nodes.
-fn places_of_somebody(alloc: Global, nodes: &[Node<'_>]) -> Result<Vec<usize>, AllocError>
-    ensures { IfOk result (λ places. (j : ℕ)
-        → Contains places.items j ↔ IsAt IsSomebody (map node_of nodes.now) j) }
-{
-    let mut places = Vec::new(alloc);
-    for (place, node) in nodes.iter().enumerate() {
-        if is_somebody(*node) {
-            places.push(place)?;
-        }
-    }
-    Ok(places)
-}
-
-// Whether a node is a user or a group.
-fn is_somebody(node: Node<'_>) -> bool
-    ensures { IsTrue result ↔ IsSomebody (node_of node.entry) }
-{
-    matches!(node, Node::Somebody(_))
+    principals.iter().collect(alloc)
 }
 
 // The ways from the nodes that were reached. A node that no user or group comes to is left out.
@@ -175,12 +146,8 @@ fn ways_by<'p>(
 ) -> Result<Vec<Way<'p>>, AllocError>
     requires policy { IsPolicy policy.now }
     requires index { index.now ≡ policy.now }
-    requires held { All (HasItsRole policy.now.held) (map node_of nodes.now) }
-    requires grants { AreTakingGrants policy.now steps.now made.now.grants.items }
-    requires places { ArePlaces policy.now made.now.grants.items (map node_of nodes.now) (length nodes.now)
+    requires joined { AreJoined policy.now steps.now nodes.now made.now.grants.items
         made.now.places.items }
-    requires ordered { AllPairs (λ y z. text_cmp (node_text y) (node_text z) ≡ Less)
-        (map node_of nodes.now) }
     requires linked { AreLinkedOn policy.now steps.now (map node_of nodes.now)
         reached.now.stops.items }
     requires ends { AllowAtEnds policy.now (access_of access) (map node_of nodes.now) reached.now.stops.items }

@@ -1,7 +1,7 @@
-//! The names of roles that rules let one bind. If a node can bind a role, but not every role of the
-//! scope, it has a rule that is limited to names and lists this role's name, or one that lets it
-//! bind each Role and not each cluster role. So without such a rule, roles with other names needn't
-//! be nodes.
+//! The names of roles that rules let one bind. If a node can bind a role, and doesn't take over
+//! everything in the scope by `bind` or `escalate`, it has a rule that is limited to names and lists
+//! this role's name, or one that lets it bind each Role, but neither bind each cluster role nor
+//! escalate Roles. So without such a rule, roles with other names needn't be nodes.
 
 ghost use Rattle.std.specs.Prelude.{◌≡◌, ◌⊎◌, ◌↔◌, [], Any, Contains, IfOk, IsTrue, OnOk};
 ghost use Rattle.rbac_terms.specs.Matching.{RuleAllows};
@@ -10,11 +10,11 @@ ghost use Rattle.std.specs.List.Sorted.{IsStrictlySortedBy};
 ghost use Rattle.rbac_terms.specs.Text.{Text, text_cmp};
 ghost use Rattle.rbac_model.specs.Policies.{IsPolicy};
 ghost use Rattle.rbac_paths.specs.BoundNames.{AreBoundNames, BindsEach, BindsEachRole};
-ghost use Rattle.rbac_paths.specs.BoundNames.{BindsNamed, IsBoundName, SomeRule};
+ghost use Rattle.rbac_paths.specs.BoundNames.{BindsNamed, IsBoundName, SomeRule, TakesMore};
 ghost use Rattle.rbac_paths.specs.Rows.{AreOfStep, MatchesRow};
 ghost use Rattle.rbac_paths.specs.SharedWords.{AddsWhere};
 ghost use Rattle.rbac_paths.specs.Steps.{table};
-ghost use Rattle.rbac_steps.specs.declared.steps.Step.TheVariants.{Bind};
+ghost use Rattle.rbac_steps.specs.declared.steps.Step.TheVariants.{Bind, Escalate};
 
 use crate::rows::{WordRow, has_name, rows_of};
 use crate::table::RBAC;
@@ -29,20 +29,25 @@ pub(crate) struct BoundNames {
     /// The object names of all rules of the policy that let one bind roles. A cluster role with
     /// another name is taken over only with everything in its scope.
     pub(crate) listed: Vec<Word>,
-    /// The same; and the names of all Roles, if a rule lets one bind each Role and not each cluster
-    /// role.
+    /// The same; and the names of all Roles, if a rule lets one bind each Role and doesn't take
+    /// over everything too.
     pub(crate) all: Vec<Word>,
 }
 
-/// The names of the roles that rules of this policy let one bind.
-pub(crate) fn bound_names(alloc: Global, policy: &Policy) -> Result<BoundNames, AllocError>
+/// The names of the roles that rules of this policy let one bind, where `bind` and `escalate` count
+/// if they are among these steps.
+pub(crate) fn bound_names(
+    alloc: Global,
+    policy: &Policy,
+    steps: &[Step],
+) -> Result<BoundNames, AllocError>
     ensures names { IfOk result
-        (λ names. AreBoundNames policy.now.held names.listed.items names.all.items) }
+        (λ names. AreBoundNames steps.now policy.now.held names.listed.items names.all.items) }
     ensures policy { OnOk result (IsPolicy policy.now) }
 {
     let listed = names_in_rules(alloc, policy)?;
     let listed = in_order(listed);
-    let all = all_bound(alloc, policy, listed.as_slice())?;
+    let all = all_bound(alloc, policy, steps, listed.as_slice())?;
     let all = in_order(all);
     Ok(BoundNames { listed, all })
 }
@@ -59,16 +64,22 @@ fn in_order(names: Vec<Word>) -> Vec<Word>
 }
 
 // The listed names, which are the object names of all rules of this policy that let one bind roles;
-// and the names of all Roles, if a rule lets one bind each Role. In any order and with repeats.
-fn all_bound(alloc: Global, policy: &Policy, listed: &[Word]) -> Result<Vec<Word>, AllocError>
+// and the names of all Roles, if a rule lets one bind each Role and doesn't take over everything by
+// these steps. In any order and with repeats.
+fn all_bound(
+    alloc: Global,
+    policy: &Policy,
+    steps: &[Step],
+    listed: &[Word],
+) -> Result<Vec<Word>, AllocError>
     requires { (name : Text)
         → Contains listed.now name ↔ SomeRule (λ rule. BindsNamed rule name) policy.now.held }
     ensures { IfOk result (λ names. (name : Text)
-        → Contains names.items name ↔ IsBoundName policy.now.held name) }
+        → Contains names.items name ↔ IsBoundName steps.now policy.now.held name) }
 {
     let mut names = Vec::new(alloc);
     names.extend_with_clones(listed)?;
-    if some_binds_each_role(alloc, policy)? {
+    if some_binds_each_role(alloc, policy, steps)? {
         add_role_names(alloc, policy.objects().roles(), &mut names)?;
     }
     Ok(names)
@@ -111,16 +122,21 @@ fn add_role_name(alloc: Global, role: &Role, names: &mut Vec<Word>) -> Result<()
     Ok(())
 }
 
-// Whether some rule of this policy lets one bind each Role, and not each cluster role.
-fn some_binds_each_role(alloc: Global, policy: &Policy) -> Result<bool, AllocError>
-    ensures { IfOk result (λ some. IsTrue some ↔ SomeRule BindsEachRole policy.now.held) }
+// Whether some rule of this policy lets one bind each Role, and doesn't take over everything by
+// these steps.
+fn some_binds_each_role(alloc: Global, policy: &Policy, steps: &[Step]) -> Result<bool, AllocError>
+    ensures { IfOk result
+        (λ some. IsTrue some ↔ SomeRule (BindsEachRole steps.now) policy.now.held) }
 {
     let verb = Word::from_slice(alloc, BIND)?;
+    let escalate = Word::from_slice(alloc, ESCALATE)?;
     let group = Word::from_slice(alloc, RBAC.as_bytes())?;
     let roles = Word::from_slice(alloc, ROLES)?;
     let cluster_roles = Word::from_slice(alloc, CLUSTER_ROLES)?;
     let bind = BindWords {
         verb: &verb,
+        escalate: &escalate,
+        escalates: some_is_escalate(steps),
         group: &group,
         roles: &roles,
         cluster_roles: &cluster_roles,
@@ -128,7 +144,21 @@ fn some_binds_each_role(alloc: Global, policy: &Policy) -> Result<bool, AllocErr
     Ok(some_rule_binds(policy, bind))
 }
 
-// Whether some rule of this policy lets one bind each Role, and not each cluster role.
+// Whether `escalate` is among these steps.
+fn some_is_escalate(steps: &[Step]) -> bool
+    ensures { IsTrue result ↔ Any (λ step. step ≡ Escalate) steps.now }
+{
+    steps.iter().any(|step| is_escalate(*step))
+}
+
+// Whether this step is `escalate`.
+fn is_escalate(step: Step) -> bool
+    ensures { IsTrue result ↔ (step ≡ Escalate) }
+{
+    step == Step::Escalate
+}
+
+// Whether some rule of this policy lets one bind each Role, and doesn't take over everything too.
 fn some_rule_binds(policy: &Policy, bind: BindWords<'_>) -> bool
     ensures { IsTrue result ↔ SomeRule (BindsEach bind.entry) policy.now.held }
 {
@@ -136,7 +166,7 @@ fn some_rule_binds(policy: &Policy, bind: BindWords<'_>) -> bool
         || some_cluster_role_binds(policy.objects().cluster_roles(), bind)
 }
 
-// Whether some rule of these Roles lets one bind each Role, and not each cluster role.
+// Whether some rule of these Roles lets one bind each Role, and doesn't take over everything too.
 fn some_role_binds(roles: &[Role], bind: BindWords<'_>) -> bool
     ensures { IsTrue result ↔ Any (λ role. Any (BindsEach bind.entry) role.rules) roles.now }
 {
@@ -145,7 +175,8 @@ fn some_role_binds(roles: &[Role], bind: BindWords<'_>) -> bool
         .any(|role| some_binds(bind, role.rules.as_slice()))
 }
 
-// Whether some rule of these cluster roles lets one bind each Role, and not each cluster role.
+// Whether some rule of these cluster roles lets one bind each Role, and doesn't take over everything
+// too.
 fn some_cluster_role_binds(roles: &[ClusterRole], bind: BindWords<'_>) -> bool
     ensures { IsTrue result ↔ Any (λ role. Any (BindsEach bind.entry) role.rules) roles.now }
 {
@@ -155,43 +186,62 @@ fn some_cluster_role_binds(roles: &[ClusterRole], bind: BindWords<'_>) -> bool
 }
 
 // The words of requests to bind: the verb, the API group, and the resources Roles and cluster
-// roles.
+// roles. Also the verb to escalate, and whether that counts.
 #[derive(Clone, Copy)]
 struct BindWords<'a> {
     verb: &'a Word,
+    escalate: &'a Word,
+    escalates: bool,
     group: &'a Word,
     roles: &'a Word,
     cluster_roles: &'a Word,
 }
 
-// Whether one of these rules lets one bind each Role, and not each cluster role.
+// Whether one of these rules lets one bind each Role, and doesn't take over everything too.
 fn some_binds(bind: BindWords<'_>, rules: &[Rule]) -> bool
     ensures { IsTrue result ↔ Any (BindsEach bind.entry) rules.now }
 {
     rules.iter().any(|rule| binds_each_role(bind, rule))
 }
 
-// Whether the rule lets one bind each Role, and not each cluster role.
+// Whether the rule lets one bind each Role, and doesn't take over everything too.
 #[tactic(auto, unfolding(crate::specs::BoundNames::BindsEach))]
 fn binds_each_role(bind: BindWords<'_>, rule: &Rule) -> bool
     ensures { IsTrue result ↔ BindsEach bind.entry rule.now }
 {
-    binds_any(bind, bind.roles, rule) && !binds_any(bind, bind.cluster_roles, rule)
+    allows_any(bind, bind.verb, bind.roles, rule) && !takes_more(bind, rule)
 }
 
-// Whether the rule lets one bind roles of this kind, whatever their names.
-fn binds_any(bind: BindWords<'_>, kind: &Word, rule: &Rule) -> bool
-    ensures { IsTrue result
-        ↔ RuleAllows rule.now bind.entry.verb.now (Resource bind.entry.group.now kind.now []) }
+// Whether the rule takes over everything where it counts, if it lets one bind Roles.
+fn takes_more(bind: BindWords<'_>, rule: &Rule) -> bool
+    ensures { IsTrue result ↔ TakesMore bind.entry rule.now }
 {
-    verb_matches(rule, bind.verb)
+    allows_any(bind, bind.verb, bind.cluster_roles, rule) || escalates_roles(bind, rule)
+}
+
+// Whether `escalate` counts, and the rule lets one write any rule into Roles.
+fn escalates_roles(bind: BindWords<'_>, rule: &Rule) -> bool
+    ensures { IsTrue result ↔ (IsTrue bind.entry.escalates × RuleAllows rule.now
+        bind.entry.escalate.now (Resource bind.entry.group.now bind.entry.roles.now [])) }
+{
+    bind.escalates && allows_any(bind, bind.escalate, bind.roles, rule)
+}
+
+// Whether the rule allows this verb on roles of this kind, whatever their names.
+fn allows_any(bind: BindWords<'_>, verb: &Word, kind: &Word, rule: &Rule) -> bool
+    ensures { IsTrue result
+        ↔ RuleAllows rule.now verb.now (Resource bind.entry.group.now kind.now []) }
+{
+    verb_matches(rule, verb)
         && group_matches(rule, bind.group)
         && resource_matches(rule, kind)
         && has_name(rule, b"")
 }
 
-// The verb of requests to bind, and the resources Roles and cluster roles.
+// The verbs of requests to bind and to escalate, and the resources Roles and cluster roles.
 const BIND: &[u8] = b"bind";
+
+const ESCALATE: &[u8] = b"escalate";
 
 const ROLES: &[u8] = b"roles";
 

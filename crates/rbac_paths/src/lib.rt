@@ -25,6 +25,8 @@ mod principals;
 mod reason;
 mod rows;
 mod rule_takeovers;
+mod searching;
+mod seeking;
 mod table;
 mod takeover;
 mod taking;

@@ -6,7 +6,7 @@ ghost use Rattle.std.specs.Prelude.{None, OnOk, length, map, ℕ};
 ghost use Rattle.std.specs.Option.{option_copied};
 ghost use Rattle.rbac_model.specs.Policies.{PolicyView};
 ghost use Rattle.rbac_ways.specs.Joining.{HasUnder};
-ghost use Rattle.rbac_paths.specs.Joints.{AreAmongOthers, AreAskedPlaces, AreOtherPlaces};
+ghost use Rattle.rbac_paths.specs.Joints.{AreAmongOthers, AreAskedPlaces};
 ghost use Rattle.rbac_paths.specs.Joints.{AreOthers, AreOthersAt, AreOverOthers, AreScopeWords};
 ghost use Rattle.rbac_paths.specs.Joints.{AreScoped, CountsAt, DecideOn, IsNobody, IsOverOthersAt};
 ghost use Rattle.rbac_paths.specs.Joints.{IsRole, OthersView, SeesAll, SomeMayTake, scope_at};
@@ -23,6 +23,7 @@ ghost use Rattle.rbac_steps.specs.declared.steps.Step.TheVariants.{Bind, Escalat
 use crate::holding::Holding;
 use crate::node::Node;
 use crate::rule_takeovers::RuleTakeovers;
+use crate::seeking::{Sought, is_nobody, places_of};
 use crate::takeover::some_is_over_nobody;
 use crate::taking::scope_namespace;
 use crate::told::{StepRows, first_told, has_all};
@@ -67,7 +68,7 @@ impl Others {
     pub(crate) fn of(alloc: Global, nodes: &[Node<'_>]) -> Result<Self, AllocError>
         ensures { IfOk result (AreAmongOthers (map node_of nodes.now)) }
     {
-        let places = places_of_others(alloc, nodes)?;
+        let places = places_of(alloc, nodes, Sought::Nobody)?;
         let scopes = scopes_of_others(alloc, nodes)?;
         let by_scope = NodesByWord::of(alloc, scopes.as_slice())?;
         let mut in_cluster = Vec::new(alloc);
@@ -89,26 +90,6 @@ impl Others {
             None => self.in_cluster.as_slice(),
         }
     }
-}
-
-// The places of the other nodes in this list.
-fn places_of_others(alloc: Global, nodes: &[Node<'_>]) -> Result<Vec<usize>, AllocError>
-    ensures { IfOk result (λ places. AreOtherPlaces (map node_of nodes.now) places.items) }
-{
-    let mut places = Vec::new(alloc);
-    for (place, node) in nodes.iter().enumerate() {
-        if is_nobody(*node) {
-            places.push(place)?;
-        }
-    }
-    Ok(places)
-}
-
-// Whether a node is one of the other nodes: a role, or everything in a scope.
-fn is_nobody(node: Node<'_>) -> bool
-    ensures { IsTrue result ↔ IsNobody (node_of node.entry) }
-{
-    !matches!(node, Node::Somebody(_))
 }
 
 // For each of these nodes, the word for its scope; none for a user or a group.

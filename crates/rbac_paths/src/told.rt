@@ -240,16 +240,12 @@ fn has_more(
 
 // Whether these holdings can take over everything in the scope by `bind` or `escalate`, if these
 // are among the steps.
+#[tactic(auto, unfolding(crate::specs::Told::HoldingsHaveAll))]
 pub(crate) fn has_all(steps: &[StepRows], holdings: &[Holding<'_>], scope: Option<&Word>) -> bool
     ensures { IsTrue result
         ↔ HoldingsHaveAll steps.now holdings.now (option_copied scope.entry) }
 {
-    for rows in steps {
-        if takes_all(rows, holdings, scope) {
-            return true;
-        }
-    }
-    false
+    steps.iter().any(|rows| takes_all(rows, holdings, scope))
 }
 
 // Whether this step is `bind` or `escalate`, and these holdings can take over everything in the
@@ -262,15 +258,11 @@ fn takes_all(rows: &StepRows, holdings: &[Holding<'_>], scope: Option<&Word>) ->
 }
 
 // Whether these holdings can take over the node by `bind`, if that is among the steps.
+#[tactic(auto, unfolding(crate::specs::Told::HoldingsBind))]
 fn binds(steps: &[StepRows], holdings: &[Holding<'_>], to: Node<'_>) -> bool
     ensures { IsTrue result ↔ HoldingsBind steps.now holdings.now (node_of to.entry) }
 {
-    for rows in steps {
-        if binds_by(rows, holdings, to) {
-            return true;
-        }
-    }
-    false
+    steps.iter().any(|rows| binds_by(rows, holdings, to))
 }
 
 // Whether this step is `bind`, and these holdings can take over the node by it.

@@ -12,15 +12,6 @@ use Rattle.rbac_paths.proofs.Tracing.{matched_none, matched_some}
 use Rattle.rbac_paths.proofs.WhatDecides.{decide_about, numbers_within}
 use Rattle.rbac_paths.proofs.all_paths.last_step.Goals as goal
 
-pub reason_by-requires-clause-policy : goal.reason_by-requires-clause-policy
-reason_by-requires-clause-policy c = c.requires.policy
-
-pub reason_by-requires-clause-index : goal.reason_by-requires-clause-index
-reason_by-requires-clause-index c = c.requires.index
-
-pub reason_by-requires-clause-role : goal.reason_by-requires-clause-role
-reason_by-requires-clause-role c = c.requires.role
-
 pub reason_by-requires-clause-within : goal.reason_by-requires-clause-within
 reason_by-requires-clause-within c =
     let p = c.args.policy.now in

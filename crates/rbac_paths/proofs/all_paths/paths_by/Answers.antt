@@ -45,100 +45,40 @@ loop-place-preserved-in_default c =
 
 pub bounds-nodes-stop : goal.bounds-nodes-stop
 bounds-nodes-stop c =
-    let p = c.args.policy.now in
-    let steps = c.args.steps.now in
-    let nodes = c.args.nodes.now in
-    let ys = map node_of nodes in
-    let len = length-map nodes node_of in
-    let stops = c.args.reached.now.stops.items in
-    let place = get_or c.as_slice-place-items.result.now c.loop-place.place-index 0 in
-    let s = c.in-Some.stop.now in
-    let at = subst (λ (ss : List (Option Stop)). get_or ss place None ≡ Some s) c.as_slice-stops.ensures.value c.in-Some.ensures.0 in
-    let there = both_there p steps ys stops c.requires.linked place s at c.in-Some.ensures.1 in
-    let in_ys = there.0 in
-    omega (arith, in_ys, len)
+    (both_there c.args.policy.now c.args.steps.now c.args.nodes.now c.args.reached.now.stops.items c.as_slice-stops.result.now c.as_slice-stops.ensures.value c.requires.linked (get_or c.as_slice-place-items.result.now c.loop-place.place-index 0) c.in-Some.stop.now c.in-Some.ensures.0 c.in-Some.ensures.1).1
 
 pub offset_bounds-nodes-stop : goal.offset_bounds-nodes-stop
 offset_bounds-nodes-stop c =
-    let p = c.args.policy.now in
-    let steps = c.args.steps.now in
-    let nodes = c.args.nodes.now in
-    let ys = map node_of nodes in
-    let len = length-map nodes node_of in
-    let stops = c.args.reached.now.stops.items in
-    let place = get_or c.as_slice-place-items.result.now c.loop-place.place-index 0 in
-    let s = c.in-Some.stop.now in
-    let at = subst (λ (ss : List (Option Stop)). get_or ss place None ≡ Some s) c.as_slice-stops.ensures.value c.in-Some.ensures.0 in
-    let there = both_there p steps ys stops c.requires.linked place s at c.in-Some.ensures.1 in
-    let within : s.before < length nodes = (let in_ys = there.0 in omega (arith, in_ys, len)) in
+    let within = (both_there c.args.policy.now c.args.steps.now c.args.nodes.now c.args.reached.now.stops.items c.as_slice-stops.result.now c.as_slice-stops.ensures.value c.requires.linked (get_or c.as_slice-place-items.result.now c.loop-place.place-index 0) c.in-Some.stop.now c.in-Some.ensures.0 c.in-Some.ensures.1).1 in
     search rules
 
 pub bounds-nodes-place : goal.bounds-nodes-place
 bounds-nodes-place c =
-    let p = c.args.policy.now in
-    let steps = c.args.steps.now in
-    let nodes = c.args.nodes.now in
-    let ys = map node_of nodes in
-    let len = length-map nodes node_of in
-    let stops = c.args.reached.now.stops.items in
-    let place = get_or c.as_slice-place-items.result.now c.loop-place.place-index 0 in
-    let s = c.in-Some.stop.now in
-    let at = subst (λ (ss : List (Option Stop)). get_or ss place None ≡ Some s) c.as_slice-stops.ensures.value c.in-Some.ensures.0 in
-    let there = both_there p steps ys stops c.requires.linked place s at c.in-Some.ensures.1 in
-    let in_ys = there.1 in
-    omega (arith, in_ys, len)
+    (both_there c.args.policy.now c.args.steps.now c.args.nodes.now c.args.reached.now.stops.items c.as_slice-stops.result.now c.as_slice-stops.ensures.value c.requires.linked (get_or c.as_slice-place-items.result.now c.loop-place.place-index 0) c.in-Some.stop.now c.in-Some.ensures.0 c.in-Some.ensures.1).2
 
 pub deciding_at-requires-clause-role : goal.deciding_at-requires-clause-role
 deciding_at-requires-clause-role c =
-    let p = c.args.policy.now in
-    let steps = c.args.steps.now in
-    let nodes = c.args.nodes.now in
-    let ys = map node_of nodes in
-    let len = length-map nodes node_of in
-    let stops = c.args.reached.now.stops.items in
-    let place = get_or c.as_slice-place-items.result.now c.loop-place.place-index 0 in
-    let s = c.in-Some.stop.now in
-    let at = subst (λ (ss : List (Option Stop)). get_or ss place None ≡ Some s) c.as_slice-stops.ensures.value c.in-Some.ensures.0 in
-    let there = both_there p steps ys stops c.requires.linked place s at c.in-Some.ensures.1 in
-    let low : s.before < length nodes = (let in_ys = there.0 in omega (arith, in_ys, len)) in
-    mapped_has node_of (HasItsRole p.held) nodes s.before c.index-nodes-stop.result low c.index-nodes-stop.is c.requires.held
+    let there = both_there c.args.policy.now c.args.steps.now c.args.nodes.now c.args.reached.now.stops.items c.as_slice-stops.result.now c.as_slice-stops.ensures.value c.requires.linked (get_or c.as_slice-place-items.result.now c.loop-place.place-index 0) c.in-Some.stop.now c.in-Some.ensures.0 c.in-Some.ensures.1 in
+    mapped_has node_of (HasItsRole c.args.policy.now.held) c.args.nodes.now c.in-Some.stop.now.before c.index-nodes-stop.result there.1 c.index-nodes-stop.is c.requires.joined.held
 
 pub deciding_at-requires-clause-grants : goal.deciding_at-requires-clause-grants
-deciding_at-requires-clause-grants c = λ n at has. ((c.requires.grants n at).0 has).0
+deciding_at-requires-clause-grants c = λ n at has. ((c.requires.joined.grants n at).0 has).0
 
 pub last_step-requires-clause-role : goal.last_step-requires-clause-role
 last_step-requires-clause-role c =
-    let p = c.args.policy.now in
-    let steps = c.args.steps.now in
-    let nodes = c.args.nodes.now in
-    let ys = map node_of nodes in
-    let len = length-map nodes node_of in
-    let stops = c.args.reached.now.stops.items in
-    let place = get_or c.as_slice-place-items.result.now c.loop-place.place-index 0 in
-    let s = c.in-Some.stop.now in
-    let at = subst (λ (ss : List (Option Stop)). get_or ss place None ≡ Some s) c.as_slice-stops.ensures.value c.in-Some.ensures.0 in
-    let there = both_there p steps ys stops c.requires.linked place s at c.in-Some.ensures.1 in
-    let low : s.before < length nodes = (let in_ys = there.0 in omega (arith, in_ys, len)) in
-    mapped_has node_of (HasItsRole p.held) nodes s.before c.index-nodes-stop.result low c.index-nodes-stop.is c.requires.held
+    let there = both_there c.args.policy.now c.args.steps.now c.args.nodes.now c.args.reached.now.stops.items c.as_slice-stops.result.now c.as_slice-stops.ensures.value c.requires.linked (get_or c.as_slice-place-items.result.now c.loop-place.place-index 0) c.in-Some.stop.now c.in-Some.ensures.0 c.in-Some.ensures.1 in
+    mapped_has node_of (HasItsRole c.args.policy.now.held) c.args.nodes.now c.in-Some.stop.now.before c.index-nodes-stop.result there.1 c.index-nodes-stop.is c.requires.joined.held
 
 pub last_step-requires-clause-known : goal.last_step-requires-clause-known
 last_step-requires-clause-known c =
-    let p = c.args.policy.now in
-    let steps = c.args.steps.now in
     let nodes = c.args.nodes.now in
-    let ys = map node_of nodes in
-    let len = length-map nodes node_of in
-    let stops = c.args.reached.now.stops.items in
-    let place = get_or c.as_slice-place-items.result.now c.loop-place.place-index 0 in
     let s = c.in-Some.stop.now in
-    let at = subst (λ (ss : List (Option Stop)). get_or ss place None ≡ Some s) c.as_slice-stops.ensures.value c.in-Some.ensures.0 in
-    let there = both_there p steps ys stops c.requires.linked place s at c.in-Some.ensures.1 in
-    let low : s.before < length nodes = (let in_ys = there.0 in omega (arith, in_ys, len)) in
     let x = node_of c.index-nodes-stop.result in
-    let here : slice_get ys s.before ≡ Some x = mapped_at node_of nodes s.before c.index-nodes-stop.result low c.index-nodes-stop.is in
+    let low = (both_there c.args.policy.now c.args.steps.now c.args.nodes.now c.args.reached.now.stops.items c.as_slice-stops.result.now c.as_slice-stops.ensures.value c.requires.linked (get_or c.as_slice-place-items.result.now c.loop-place.place-index 0) c.in-Some.stop.now c.in-Some.ensures.0 c.in-Some.ensures.1).1 in
+    let here : slice_get (map node_of nodes) s.before ≡ Some x = mapped_at node_of nodes s.before c.index-nodes-stop.result low c.index-nodes-stop.is in
     elim c.if-known-stop.branch [
-      | then-known-stop+in_ok-known w ↦ rw w.known-is (w.in_ok-known.ensures.deciding steps (length c.args.made.now.grants.items + s.before) c.requires.grants (omega arith) (c.requires.places.each s.before x low here))
-      | else-known-stop w ↦ rw w.known-is (c.loop-place.invariant.known x (subst (λ (k : ℕ). slice_get ys k ≡ Some x) (sym w.if-known-stop.false ∙ ap (λ (d : DecidingView). d.place) c.known.view_is) here))
+      | then-known-stop+in_ok-known w ↦ rw w.known-is (w.in_ok-known.ensures.deciding c.args.steps.now (length c.args.made.now.grants.items + s.before) c.requires.joined.grants (omega arith) (c.requires.joined.places.each s.before x low here))
+      | else-known-stop w ↦ rw w.known-is (c.loop-place.invariant.known x (subst (λ (k : ℕ). slice_get (map node_of nodes) k ≡ Some x) (sym w.if-known-stop.false ∙ ap (λ (d : DecidingView). d.place) c.known.view_is) here))
     ]
 
 pub loop-place-preserved : goal.loop-place-preserved
@@ -147,18 +87,16 @@ loop-place-preserved c =
     let steps = c.args.steps.now in
     let nodes = c.args.nodes.now in
     let ys = map node_of nodes in
-    let len = length-map nodes node_of in
     let stops = c.args.reached.now.stops.items in
     let place = get_or c.as_slice-place-items.result.now c.loop-place.place-index 0 in
     let s = c.in-Some.stop.now in
-    let at = subst (λ (ss : List (Option Stop)). get_or ss place None ≡ Some s) c.as_slice-stops.ensures.value c.in-Some.ensures.0 in
-    let there = both_there p steps ys stops c.requires.linked place s at c.in-Some.ensures.1 in
-    let low : s.before < length nodes = (let in_ys = there.0 in omega (arith, in_ys, len)) in
+    let there = both_there p steps nodes stops c.as_slice-stops.result.now c.as_slice-stops.ensures.value c.requires.linked place s c.in-Some.ensures.0 c.in-Some.ensures.1 in
+    let at = there.0 in
+    let low = there.1 in
     let x = node_of c.index-nodes-stop.result in
     let here : slice_get ys s.before ≡ Some x = mapped_at node_of nodes s.before c.index-nodes-stop.result low c.index-nodes-stop.is in
-    let under : place < length nodes = (let in_ys = there.1 in omega (arith, in_ys, len)) in
     let y = node_of c.index-nodes-place.result in
-    let there_too : slice_get ys place ≡ Some y = mapped_at node_of nodes place c.index-nodes-place.result under c.index-nodes-place.is in
+    let there_too : slice_get ys place ≡ Some y = mapped_at node_of nodes place c.index-nodes-place.result there.2 c.index-nodes-place.is in
     let items = c.as_slice-place-items.result.now in
     let i = c.loop-place.place-index in
     let xs = c.loop-place.paths.items in
@@ -169,7 +107,7 @@ loop-place-preserved c =
           (let told = matched_some c.in_ok-told.told (TakesOver p steps x y → ⊥) (λ t. IsFirstTold p steps x y t.0 × IsReason p x (ToTakeOver t.0 y) (reason_view t.1)) _ w.in-Some-told.is c.in_ok-told.ensures in
           let is : IsPathAt p steps ys stops place _ = record { stop = s; at = at; led = c.in-Some.ensures.1; count = refl; node = there_too; before = here; step = told.0; reason = told.1 } in
           told_more (IsPathAt p steps ys stops) (IsUnled stops) IsNearer (take i items) place xs c.loop-place.invariant.paths _ is
-          (λ j z had found. nearer p steps ys stops c.requires.ordered j place z _ (later j had) found is))
+          (λ j z had found. nearer p steps ys stops c.requires.joined.ordered j place z _ (later j had) found is))
       | in_default-told w ↦ absurd
           (matched_none c.in_ok-told.told _ (λ t. IsFirstTold p steps x y t.0 × IsReason p x (ToTakeOver t.0 y) (reason_view t.1)) w.in_default-told.not-Some c.in_ok-told.ensures
           (takes_both p steps ys stops c.requires.linked place s at c.in-Some.ensures.1 x y here there_too))
@@ -178,7 +116,7 @@ loop-place-preserved c =
       paths = subst (λ (js : List ℕ). ArePathsAt p steps ys stops js c.match-told.paths.items) (sym (take_more items i 0 c.loop-place-test.true)) more;
       known = elim c.if-known-stop.branch [
         | then-known-stop+in_ok-known w ↦ rw w.known-is (deciding_there p steps ys w.in_ok-known.known s.before x here w.in_ok-known.ensures.place
-            (w.in_ok-known.ensures.deciding steps (length c.args.made.now.grants.items + s.before) c.requires.grants (omega arith) (c.requires.places.each s.before x low here)))
+            (w.in_ok-known.ensures.deciding steps (length c.args.made.now.grants.items + s.before) c.requires.joined.grants (omega arith) (c.requires.joined.places.each s.before x low here)))
         | else-known-stop w ↦ rw w.known-is c.loop-place.invariant.known
       ];
     }

@@ -4,9 +4,6 @@ use Rattle.rbac_paths.specs.Powers.{PowerView}
 use Rattle.rbac_paths.proofs.AllPowers.{all_powers, powers_in, with_grants}
 use Rattle.rbac_paths.proofs.all_steps.add_step.Goals as goal
 
-pub loop-power-init : goal.loop-power-init
-loop-power-init c = refl
-
 pub loop-power-preserved : goal.loop-power-preserved
 loop-power-preserved c =
     let all = c.loop-power.all.items in

@@ -27,18 +27,6 @@ returns-in_default-get c =
     let past = c.in_default-get.ensures.lookup.3 in
     absurd (omega (arith, low, len, past))
 
-pub own_way-requires-clause-policy : goal.own_way-requires-clause-policy
-own_way-requires-clause-policy c = c.requires.policy
-
-pub own_way-requires-clause-index : goal.own_way-requires-clause-index
-own_way-requires-clause-index c = c.requires.index
-
-pub last_step-requires-clause-policy : goal.last_step-requires-clause-policy
-last_step-requires-clause-policy c = c.requires.policy
-
-pub last_step-requires-clause-index : goal.last_step-requires-clause-index
-last_step-requires-clause-index c = c.requires.index
-
 pub own_way-requires-clause-role : goal.own_way-requires-clause-role
 own_way-requires-clause-role c =
     let found = c.in-Some.ensures.lookup.3 in

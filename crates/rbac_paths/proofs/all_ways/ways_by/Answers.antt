@@ -1,6 +1,5 @@
 use Rattle.std.proofs.Common.{◌≡◌, ◌∙◌, ◌+◌, ◌<◌, List, MatchOption, None, Option, ℕ, arith, get_or, length, map, subst, sym, take}
-use Rattle.std.proofs.lemmas.List.{get_or_default, length-map, take_all, take_more}
-use Rattle.std.proofs.lemmas.List.Elements.{Contains-get_or}
+use Rattle.std.proofs.lemmas.List.{get_or_default, take_all, take_more}
 use Rattle.std.proofs.lemmas.Bool.{false≢true}
 use Rattle.rbac_ways.specs.Ways.{AreInOrder}
 use Rattle.rbac_ways.specs.declared.graph.Stop.{Stop}
@@ -16,68 +15,29 @@ use Rattle.rbac_paths.proofs.WaysTold.{not_come, shorter, told_there}
 use Rattle.rbac_paths.proofs.all_ways.ways_by.Goals as goal
 use Rattle.rbac_paths.proofs.all_ways.ways_by.Goals.{then-is_met+in_ok-known+in_ok-way, else-is_met, in-Some+in_ok-push, in_default}
 
-pub way_at-requires-clause-policy : goal.way_at-requires-clause-policy
-way_at-requires-clause-policy c = c.requires.policy
-
-pub way_at-requires-clause-index : goal.way_at-requires-clause-index
-way_at-requires-clause-index c = c.requires.index
-
-pub way_at-requires-clause-held : goal.way_at-requires-clause-held
-way_at-requires-clause-held c = c.requires.held
-
 pub bounds-nodes-place : goal.bounds-nodes-place
 bounds-nodes-place c =
-    let nodes = c.args.nodes.now in
-    let ys = map node_of nodes in
-    let items = c.as_slice-place-items.result.now in
-    let i = c.loop-place.place-index in
-    let place = get_or items i 0 in
-    let in_order = subst (λ (order : List ℕ). AreInOrder c.args.reached.now.stops.items order) (sym c.as_slice-place-items.ensures.value) c.requires.order in
-    let low : place < length nodes = (let in_ys = node_there c.args.policy.now c.args.steps.now (access_of c.args.access) ys c.args.reached.now.stops.items items in_order c.requires.linked c.requires.ends place (Contains-get_or items i 0 c.loop-place-test.true) in let len = length-map nodes node_of in omega (arith, in_ys, len)) in
-    low
+    node_there c.args.policy.now c.args.steps.now (access_of c.args.access) c.args.nodes.now c.args.reached.now.stops.items c.args.reached.now.order.items c.as_slice-place-items.result.now c.as_slice-place-items.ensures.value c.requires.order c.requires.linked c.requires.ends c.loop-place.place-index c.loop-place-test.true
 
 pub deciding_at-requires-clause-role : goal.deciding_at-requires-clause-role
 deciding_at-requires-clause-role c =
-    let nodes = c.args.nodes.now in
-    let ys = map node_of nodes in
-    let items = c.as_slice-place-items.result.now in
-    let i = c.loop-place.place-index in
-    let place = get_or items i 0 in
-    let in_order = subst (λ (order : List ℕ). AreInOrder c.args.reached.now.stops.items order) (sym c.as_slice-place-items.ensures.value) c.requires.order in
-    let low : place < length nodes = (let in_ys = node_there c.args.policy.now c.args.steps.now (access_of c.args.access) ys c.args.reached.now.stops.items items in_order c.requires.linked c.requires.ends place (Contains-get_or items i 0 c.loop-place-test.true) in let len = length-map nodes node_of in omega (arith, in_ys, len)) in
-    mapped_has node_of (HasItsRole c.args.policy.now.held) nodes place c.index-nodes-place.result low c.index-nodes-place.is c.requires.held
+    mapped_has node_of (HasItsRole c.args.policy.now.held) c.args.nodes.now (get_or c.as_slice-place-items.result.now c.loop-place.place-index 0) c.index-nodes-place.result
+    (node_there c.args.policy.now c.args.steps.now (access_of c.args.access) c.args.nodes.now c.args.reached.now.stops.items c.args.reached.now.order.items c.as_slice-place-items.result.now c.as_slice-place-items.ensures.value c.requires.order c.requires.linked c.requires.ends c.loop-place.place-index c.loop-place-test.true) c.index-nodes-place.is c.requires.joined.held
 
 pub way_at-requires-clause-known : goal.way_at-requires-clause-known
 way_at-requires-clause-known c =
     let steps = c.args.steps.now in
     let nodes = c.args.nodes.now in
     let ys = map node_of nodes in
-    let items = c.as_slice-place-items.result.now in
-    let i = c.loop-place.place-index in
-    let place = get_or items i 0 in
-    let in_order = subst (λ (order : List ℕ). AreInOrder c.args.reached.now.stops.items order) (sym c.as_slice-place-items.ensures.value) c.requires.order in
-    let low : place < length nodes = (let in_ys = node_there c.args.policy.now c.args.steps.now (access_of c.args.access) ys c.args.reached.now.stops.items items in_order c.requires.linked c.requires.ends place (Contains-get_or items i 0 c.loop-place-test.true) in let len = length-map nodes node_of in omega (arith, in_ys, len)) in
+    let place = get_or c.as_slice-place-items.result.now c.loop-place.place-index 0 in
+    let low = node_there c.args.policy.now c.args.steps.now (access_of c.args.access) c.args.nodes.now c.args.reached.now.stops.items c.args.reached.now.order.items c.as_slice-place-items.result.now c.as_slice-place-items.ensures.value c.requires.order c.requires.linked c.requires.ends c.loop-place.place-index c.loop-place-test.true in
     let x = node_of c.index-nodes-place.result in
     let here = mapped_at node_of nodes place c.index-nodes-place.result low c.index-nodes-place.is in
     deciding_there c.args.policy.now steps ys c.in_ok-known.known place x here c.in_ok-known.ensures.place
-    (c.in_ok-known.ensures.deciding steps (length c.args.made.now.grants.items + place) c.requires.grants (omega arith) (c.requires.places.each place x low here))
-
-pub deciding_at-requires-clause-policy : goal.deciding_at-requires-clause-policy
-deciding_at-requires-clause-policy c = c.requires.policy
-
-pub deciding_at-requires-clause-index : goal.deciding_at-requires-clause-index
-deciding_at-requires-clause-index c = c.requires.index
+    (c.in_ok-known.ensures.deciding steps (length c.args.made.now.grants.items + place) c.requires.joined.grants (omega arith) (c.requires.joined.places.each place x low here))
 
 pub deciding_at-requires-clause-grants : goal.deciding_at-requires-clause-grants
-deciding_at-requires-clause-grants c = λ n at has. ((c.requires.grants n at).0 has).0
-
-pub way_at-requires-clause-linked : goal.way_at-requires-clause-linked
-way_at-requires-clause-linked c =
-    subst (λ (ss : List (Option Stop)). AreLinkedOn c.args.policy.now c.args.steps.now (map node_of c.args.nodes.now) ss) (sym c.as_slice-stops.ensures.value) c.requires.linked
-
-pub way_at-requires-clause-ends : goal.way_at-requires-clause-ends
-way_at-requires-clause-ends c =
-    subst (λ (ss : List (Option Stop)). AllowAtEnds c.args.policy.now (access_of c.args.access) (map node_of c.args.nodes.now) ss) (sym c.as_slice-stops.ensures.value) c.requires.ends
+deciding_at-requires-clause-grants c = λ n at has. ((c.requires.joined.grants n at).0 has).0
 
 pub loop-place-init : goal.loop-place-init
 loop-place-init c =
@@ -110,7 +70,7 @@ loop-place-preserved c =
       | in-Some+in_ok-push w ↦ rw (w.ways-is, w.in_ok-push.ensures.items)
           (let is = matched_some c.if-is_met.way' (IsUntoldAt come stops place) (IsToldAt p steps asked ys come stops place) _ w.in-Some.is way in
           told_more (IsToldAt p steps asked ys come stops) (IsUntoldAt come stops) IsShorter (take i items) place ways c.loop-place.invariant _ is
-          (λ j z had at. shorter p steps ys stops asked come c.requires.ordered j place z _ (later j had) at is))
+          (λ j z had at. shorter p steps ys stops asked come c.requires.joined.ordered j place z _ (later j had) at is))
       | in_default w ↦ rw w.ways-is
           (told_same (IsToldAt p steps asked ys come stops) (IsUntoldAt come stops) IsShorter (take i items) place ways c.loop-place.invariant
           (matched_none c.if-is_met.way' (IsUntoldAt come stops place) (IsToldAt p steps asked ys come stops place) w.in_default.not-Some way))

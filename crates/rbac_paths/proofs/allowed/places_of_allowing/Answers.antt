@@ -12,18 +12,6 @@ use Rattle.rbac_paths.proofs.Tracing.{all_below, below_more, below_none, below_s
 use Rattle.rbac_paths.proofs.allowed.places_of_allowing.Goals as goal
 use Rattle.rbac_paths.proofs.allowed.places_of_allowing.Goals.{then-branch+in_ok-push, else-branch}
 
-pub allows-requires-clause-policy : goal.allows-requires-clause-policy
-allows-requires-clause-policy c = c.requires.policy
-
-pub allows-requires-clause-index : goal.allows-requires-clause-index
-allows-requires-clause-index c = c.requires.index
-
-pub allows-requires-clause-all : goal.allows-requires-clause-all
-allows-requires-clause-all c = c.in_ok-all.ensures
-
-pub allows-requires-clause-marks : goal.allows-requires-clause-marks
-allows-requires-clause-marks c = subst (MarkAllowing c.args.policy.now (access_of c.args.access)) (sym c.as_slice-marks.ensures.value) c.in_ok-marks.ensures
-
 pub loop-place-init : goal.loop-place-init
 loop-place-init c = below_none (IsAt (AllowsAccess c.args.policy.now (access_of c.args.access)) (map node_of c.args.nodes.now)) _ c.new-places.ensures.items
 

@@ -23,7 +23,7 @@ returns c =
           (let new = w.add_role_names.new.names.items in
           let roles = w.roles.ensures.roles ∙ ap (λ (held : Held). held.roles) w.objects.ensures.held in
           let adds = subst (λ (rs : List Role). AddsWhere (λ name. Any (λ role. role.name ≡ name) rs) names new) roles w.in_ok-add_role_names.ensures in
-          rw w.names-is (with_roles h names in_rules (c.in_ok-some_binds_each_role.ensures.0 w.if-branch.true) new adds))
+          rw w.names-is (with_roles c.args.steps.now h names in_rules (c.in_ok-some_binds_each_role.ensures.0 w.if-branch.true) new adds))
       | else-branch w ↦ rw w.names-is
-          (without_roles h names in_rules (λ some. false≢true (sym w.if-branch.false ∙ c.in_ok-some_binds_each_role.ensures.1 some)))
+          (without_roles c.args.steps.now h names in_rules (λ some. false≢true (sym w.if-branch.false ∙ c.in_ok-some_binds_each_role.ensures.1 some)))
     ]

@@ -13,6 +13,6 @@ all_bound-requires c =
 
 pub returns-clause-names : goal.returns-clause-names
 returns-clause-names c =
-    names_are c.args.policy.now.held c.in_ok-listed.listed.items c.in_ok-all.all.items c.in_order-listed.result.items c.in_order-all.result.items
+    names_are c.args.steps.now c.args.policy.now.held c.in_ok-listed.listed.items c.in_ok-all.all.items c.in_order-listed.result.items c.in_order-all.result.items
     c.in_ok-listed.ensures.names c.in_ok-all.ensures c.in_order-listed.ensures.ordered c.in_order-all.ensures.ordered
     c.in_order-listed.ensures.same c.in_order-all.ensures.same

@@ -8,9 +8,6 @@ use Rattle.rbac_paths.specs.Nodes.{node_of}
 use Rattle.rbac_paths.proofs.ListPlaces.{numbers_of}
 use Rattle.rbac_paths.proofs.deciding.deciding_at.Goals as goal
 
-pub deciding_holdings-requires-clause-role : goal.deciding_holdings-requires-clause-role
-deciding_holdings-requires-clause-role c = c.requires.role
-
 pub deciding_holdings-requires-clause-within : goal.deciding_holdings-requires-clause-within
 deciding_holdings-requires-clause-within c =
     let sorted = c.as_slice-3.result.now in

@@ -13,15 +13,6 @@ use Rattle.rbac_paths.proofs.ListPlaces.{each_takes}
 use Rattle.rbac_paths.proofs.Mapped.{mapped_at, mapped_has}
 use Rattle.rbac_paths.proofs.graph.joined.Goals as goal
 
-pub rules_held-requires-clause-policy : goal.rules_held-requires-clause-policy
-rules_held-requires-clause-policy c = c.requires.policy
-
-pub rules_held-requires-clause-index : goal.rules_held-requires-clause-index
-rules_held-requires-clause-index c = c.requires.index
-
-pub rules_held-requires-clause-all : goal.rules_held-requires-clause-all
-rules_held-requires-clause-all c = c.in_ok-all.ensures
-
 pub rules_held-requires-clause-role : goal.rules_held-requires-clause-role
 rules_held-requires-clause-role c =
     mapped_has node_of (HasItsRole c.args.policy.now.held) c.args.nodes.now c.loop-place.place c.index-nodes-place.result c.loop-place-test.true c.index-nodes-place.is c.requires.held
@@ -32,19 +23,10 @@ words_of_bindings-requires c = λ n at has. ((c.requires.grants n at).0 has).0
 pub few_of_bindings-requires : goal.few_of_bindings-requires
 few_of_bindings-requires c = λ n at has. ((c.requires.grants n at).0 has).0
 
-pub few_taken-requires-clause-policy : goal.few_taken-requires-clause-policy
-few_taken-requires-clause-policy c = c.requires.policy
-
 pub few_taken-requires-clause-few : goal.few_taken-requires-clause-few
 few_taken-requires-clause-few c =
     let few = subst (λ (fs : List (List ℕ)). AreFewGrants c.args.policy.now c.args.steps.now c.args.grants.now fs) (sym c.as_slice-few.ensures.value) (c.in_ok-few.ensures c.args.steps.now c.requires.takeovers) in
     λ n at has. ((c.requires.grants n at).0 ((few at n).0 has).0).0
-
-pub others_taken-requires-clause-writing : goal.others_taken-requires-clause-writing
-others_taken-requires-clause-writing c = c.as_slice-writing.ensures.value ∙ c.in_ok-rows.ensures
-
-pub others_taken-requires-clause-others : goal.others_taken-requires-clause-others
-others_taken-requires-clause-others c = c.in_ok-others.ensures
 
 pub loop-place-init : goal.loop-place-init
 loop-place-init c =

@@ -8,9 +8,6 @@ loop-start-init c = none_before c.args.policy.now c.args.who.now c.new-holdings.
 pub push_grants-requires-clause-ordered : goal.push_grants-requires-clause-ordered
 push_grants-requires-clause-ordered c = omega (arith, c.in-Some.ensures.next.some)
 
-pub push_grants-requires-clause-within : goal.push_grants-requires-clause-within
-push_grants-requires-clause-within c = rw (← c.requires) c.in-Some.ensures.within
-
 pub loop-start-preserved : goal.loop-start-preserved
 loop-start-preserved c =
     run_given c.args.policy.now c.args.who.now c.loop-start.from c.in-Some.start c.in-Some.end c.loop-start.holdings.items c.push_grants.new.holdings.items

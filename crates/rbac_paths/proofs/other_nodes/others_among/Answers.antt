@@ -1,18 +1,19 @@
 use Rattle.std.proofs.Common.{◌≡◌, ◌∙◌, ◌<◌, List, ℕ, Some, arith, get_or, length, map, rules, slice_get, subst, sym, take}
 use Rattle.std.proofs.lemmas.Bool.{false≢true}
 use Rattle.std.proofs.lemmas.List.{length-map, take_all, take_more}
-use Rattle.std.proofs.lemmas.Option.{slice_get_within}
-use Rattle.rbac_paths.specs.Joints.{AreOthersAt, IsNobody}
+use Rattle.std.proofs.lemmas.Option.{same_Some, slice_get_within}
+use Rattle.rbac_paths.specs.Joints.{AreOthersAt, IsNobody, IsOther}
+use Rattle.rbac_paths.specs.TakingOver.{TakesOver}
 use Rattle.rbac_paths.specs.Nodes.{node_of}
 use Rattle.rbac_paths.proofs.Mapped.{mapped_at}
-use Rattle.rbac_paths.proofs.Others.{others_more, others_none, others_same}
+use Rattle.rbac_paths.proofs.Kept.{kept_more, kept_none, kept_same}
 use Rattle.rbac_paths.proofs.Tracing.{is_here}
 use Rattle.rbac_paths.proofs.other_nodes.others_among.Goals as goal
 use Rattle.rbac_paths.proofs.other_nodes.others_among.Goals.{then-takes_other+in_ok-push, else-takes_other}
 
 pub loop-place-init : goal.loop-place-init
 loop-place-init c = (
-  λ p decide. others_none p c.args.steps.now (node_of c.args.from) (map node_of c.args.nodes.now) c.new-taken.result.items c.new-taken.ensures.items,
+  λ p decide. kept_none (IsOther p c.args.steps.now (node_of c.args.from) (map node_of c.args.nodes.now)) c.new-taken.result.items c.new-taken.ensures.items,
   λ all. absurd (false≢true all),
 )
 
@@ -51,12 +52,12 @@ loop-place-preserved c =
     let nobody = is_here IsNobody ys place y at is in
     elim c.if-takes_other.branch [
       | then-takes_other+in_ok-push w ↦ rw (w.taken-is, w.in_ok-push.ensures.items, take_more places i 0 c.loop-place-test.true) (
-        λ p decide. others_more p steps x ys (take i places) place y at js (c.loop-place.invariant.0 p decide) nobody ((c.takes_other.ensures p decide nobody).0 w.if-takes_other.true),
+        λ p decide. kept_more (IsOther p steps x ys) (take i places) place js (c.loop-place.invariant.0 p decide) (y, at, nobody, (c.takes_other.ensures p decide nobody).0 w.if-takes_other.true),
         c.seen_for-seen.ensures.seen,
       )
       | else-takes_other w ↦ rw (w.taken-is, take_more places i 0 c.loop-place-test.true) (
-        λ p decide. others_same p steps x ys (take i places) place y at js (c.loop-place.invariant.0 p decide)
-            (λ t. false≢true (sym w.if-takes_other.false ∙ (c.takes_other.ensures p decide nobody).1 t)),
+        λ p decide. kept_same (IsOther p steps x ys) (take i places) place js (c.loop-place.invariant.0 p decide)
+            (λ o. false≢true (sym w.if-takes_other.false ∙ (c.takes_other.ensures p decide nobody).1 (subst (λ z. TakesOver p steps x z) (same_Some o.0 y (sym o.1 ∙ at)) o.3))),
         c.seen_for-seen.ensures.seen,
       )
     ]

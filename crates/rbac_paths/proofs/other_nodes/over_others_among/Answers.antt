@@ -5,7 +5,8 @@ use Rattle.rbac_paths.specs.Takeovers.{AreTakeovers, HaveTakeovers}
 use Rattle.rbac_paths.specs.Told.{grant_holding}
 use Rattle.rbac_steps.specs.declared.steps.Step.{Step}
 use Rattle.rbac_paths.specs.declared.takeover.Takeover.{Takeover}
-use Rattle.rbac_paths.proofs.Others.{kept_more, kept_same, over_at}
+use Rattle.rbac_paths.proofs.Kept.{kept_more, kept_same}
+use Rattle.rbac_paths.proofs.Others.{over_at}
 use Rattle.rbac_paths.proofs.RuleTakeovers.{rule_of_grant}
 use Rattle.rbac_paths.proofs.Takeovers.{may_take}
 use Rattle.rbac_paths.proofs.other_nodes.over_others_among.Goals as goal

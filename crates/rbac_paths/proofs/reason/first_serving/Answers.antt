@@ -9,9 +9,6 @@ loop-start-init c = none_at_first c.args.policy.now (aim_of c.args.aim) c.args.w
 pub first_in_run-requires-clause-ordered : goal.first_in_run-requires-clause-ordered
 first_in_run-requires-clause-ordered c = omega (arith, c.in-Some.ensures.next.some)
 
-pub first_in_run-requires-clause-within : goal.first_in_run-requires-clause-within
-first_in_run-requires-clause-within c = rw (← c.requires) c.in-Some.ensures.within
-
 pub loop-start-preserved : goal.loop-start-preserved
 loop-start-preserved c =
     run_before c.args.policy.now (aim_of c.args.aim) c.args.who.now c.loop-start.from c.in-Some.start c.in-Some.end (rw (← c.requires) c.in-Some.ensures.next) c.loop-start.invariant c.in-Some.end (omega arith)

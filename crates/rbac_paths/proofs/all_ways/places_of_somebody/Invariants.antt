@@ -1,9 +1,0 @@
-use Rattle.std.proofs.Common.{map}
-use Rattle.rbac_paths.specs.Nodes.{node_of}
-use Rattle.rbac_paths.specs.Tracing.{IsAt}
-use Rattle.rbac_paths.specs.TracingWays.{IsSomebody}
-use Rattle.rbac_paths.proofs.Tracing.{AreBelow}
-use Rattle.rbac_paths.proofs.all_ways.places_of_somebody.Given as goal
-
-abbrev pub invariant-loop-place : goal.invariant-loop-place
-invariant-loop-place l = AreBelow (IsAt IsSomebody (map node_of l.nodes)) l.place l.places.items
