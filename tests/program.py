@@ -605,9 +605,16 @@ def wide_rules():
     expect('a wide rule of a Role', ['matrix'], given=export(role('n', 'w', wide['rules'])), **large)
     expect('a bad URL beside a wide rule', ['matrix'], 2, err=b'rbacaudit: P3 bad target\n',
            given=export(wide, {'apiVersion': 'rbacaudit/v1', 'kind': 'Universe', 'urls': ['x']}))
+    expect('the universe of a wide rule', ['universe'], given=export(wide), **large)
+    expect('a universe of one resource more', ['universe'], given=export(most, one_more), **large)
+    lists = {'principals': [], 'namespaces': [''], 'verbs': ['get'], 'names': [''], 'urls': [],
+             'resources': [{'group': group, 'resource': word, 'namespaced': True} for group in groups[:1000] for word in words[:1000]]}
+    got = run(['universe'], export(most))
+    checked('a universe of a million resources', (got.returncode, got.stdout) == (0, document_text(lists).encode()), repr(got.stdout[:300]))
     words = ['r%d' % i for i in range(4000)]
-    ended = run(['matrix'], export(product(words, words)), most=2 ** 26)
-    checked('16 million resources in 64 MiB', (ended.returncode, ended.stdout, ended.stderr) == (2, b'', large['err']), repr(ended))
+    for command in 'matrix', 'universe':
+        ended = run([command], export(product(words, words)), most=2 ** 26)
+        checked('%s of 16 million resources in 64 MiB' % command, (ended.returncode, ended.stdout, ended.stderr) == (2, b'', large['err']), repr(ended))
 
 
 def printed(**lists):
