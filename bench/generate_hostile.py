@@ -11,6 +11,7 @@ KIND is one of
     labels       a cluster role of N labels, and a selector of as many
     groups       a binding of N groups
     names        N resources, and the name of one object, which has M bytes
+    product      a rule of N API groups and N resources, and a user who has it
     bindings     N bindings of a user each
     nested       a list of lists of N documents, each nested as deep as may be
     items        N items that are small objects
@@ -93,6 +94,11 @@ def names(n, m):
     return [role('r', '{"verbs":["get"],"apiGroups":[""],"resources":[%s]},%s' % (words, named))]
 
 
+def product(n, _):
+    words = '{"verbs":["get"],"apiGroups":[%s],"resources":[%s]}' % (','.join(many(n, '"g%d"')), ','.join(many(n, '"r%d"')))
+    return [role('r', words), binding('b', subject('User', 'u'))]
+
+
 def bindings(n, _):
     return [role('r', PODS), *(binding('b%d' % i, subject('User', 'u%d' % i)) for i in range(n))]
 
@@ -114,7 +120,7 @@ def collide(_n, _m):
 
 
 KINDS = {'ring': ring, 'all': select_all, 'steps': steps, 'expressions': expressions, 'values': values, 'labels': labels, 'groups': groups,
-         'names': names, 'bindings': bindings, 'nested': nested, 'items': items, 'members': members,
+         'names': names, 'product': product, 'bindings': bindings, 'nested': nested, 'items': items, 'members': members,
          'collide': collide}
 
 

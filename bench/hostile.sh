@@ -53,6 +53,11 @@ measure "1000000 groups as subjects, a user of 2000 groups" can-i --as kim --gro
 measure "the same, the rules of the user" rules --groups "$(seq -s, 2000)" u:kim
 hostile names 5000 1000000
 measure "5000 resources by one name of a megabyte" matrix
+for count in 500 1000 2000; do
+    hostile product "$count"
+    measure "a rule of $count groups and as many resources" universe
+    measure "the same" matrix
+done
 hostile bindings 60000
 measure "60000 users by 60000 bindings" matrix --limit 1000
 hostile nested 200000

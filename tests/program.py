@@ -53,9 +53,12 @@ NO_WAYS = [*(['--indirect', *options] for count in range(1, 5) for options in it
            ['--steps', 'run', '--why'], ['--steps=' + ','.join(STEPS), '-A']]
 
 
-def run(words, given=b'', **how):
-    return subprocess.run([PROGRAM, *words], input=given, stdout=how.get('stdout', subprocess.PIPE),
-                          stderr=subprocess.PIPE, timeout=120)
+def run(words, given=b'', stdout=subprocess.PIPE, most=resource.RLIM_INFINITY):
+    """Ends within two minutes, and takes at most so many bytes of memory."""
+    def limited():
+        resource.setrlimit(resource.RLIMIT_AS, (most, most))
+
+    return subprocess.run([PROGRAM, *words], input=given, stdout=stdout, stderr=subprocess.PIPE, timeout=120, preexec_fn=limited)
 
 
 def expect(name, words, status, out=b'', err=b'', given=b''):
@@ -331,13 +334,9 @@ def full_disk():
 
 def little_memory():
     """With 128 MiB neither the longest input nor the values of four million items find room: nothing is written."""
-    def little():
-        resource.setrlimit(resource.RLIMIT_AS, (2 ** 27, 2 ** 27))
-
     inputs = {'reading': LEAST + b' ' * (MOST_BYTES - len(LEAST)), 'loading': b'[' + b','.join([b'{}'] * 4_000_000) + b']'}
     for name, given in inputs.items():
-        ended = subprocess.run([PROGRAM, *ALICE_GETS_PODS], input=given, stdout=subprocess.PIPE, stderr=subprocess.PIPE, timeout=120,
-                               preexec_fn=little)
+        ended = run(ALICE_GETS_PODS, given, most=2 ** 27)
         got = (ended.returncode, ended.stdout, ended.stderr)
         checked('out of memory in %s' % name, got == (2, b'', b'rbacaudit: out of memory\n'), repr(got))
 
@@ -579,6 +578,45 @@ def universe_limits():
     printed(names=verbs * 2, principals=users, namespaces=verbs)
 
 
+def product(groups, words, **more):
+    """A cluster role that names each of these resources in each of these groups."""
+    return {**cluster_role('w', [{'verbs': ['get'], 'apiGroups': groups, 'resources': words}]), **more}
+
+
+def wide_rules():
+    """Rules of a million resources, and of more. A rule that alone names too many is refused before its resources take memory."""
+    groups, words = (['%s%d' % (letter, i) for i in range(1001)] for letter in 'gr')
+    most, wide = product(groups[:1000], words[:1000]), product(groups, words[:1000])
+    one_more = cluster_role('o', [PODS])
+    large = dict(status=2, err=b'rbacaudit: P4 universe too large\n')
+    few = {
+        'a rule of a million resources': [most],
+        'groups twice, and words that name no resource': [product([*groups[:1000] * 2, '*', 'g*'], [*words[:1000], '*', '*/log', '/x', ''])],
+        'some of them by another rule too': [most, product(groups[:2], words[:2], metadata={'name': 'o'})],
+        'a wide rule that is aggregated over': [{**wide, 'aggregationRule': {'clusterRoleSelectors': []}}],
+        'a wide rule where resources are given': [wide, {'apiVersion': 'rbacaudit/v1', 'kind': 'Universe', 'resources': []}],
+        'a wide rule where no name is asked for': [wide, {'apiVersion': 'rbacaudit/v1', 'kind': 'Universe', 'names': []}],
+        'a wide rule beside an API resource list': [wide, {'kind': 'APIResourceList', 'groupVersion': 'v1', 'resources': []}],
+    }
+    for name, items in few.items():
+        expect(name, ['matrix'], 0, b'end\n', given=export(*items))
+    expect('a rule of one group more', ['matrix'], given=export(wide), **large)
+    expect('one resource more by another rule', ['matrix'], given=export(most, one_more), **large)
+    expect('a wide rule of a Role', ['matrix'], given=export(role('n', 'w', wide['rules'])), **large)
+    expect('a bad URL beside a wide rule', ['matrix'], 2, err=b'rbacaudit: P3 bad target\n',
+           given=export(wide, {'apiVersion': 'rbacaudit/v1', 'kind': 'Universe', 'urls': ['x']}))
+    expect('the universe of a wide rule', ['universe'], given=export(wide), **large)
+    expect('a universe of one resource more', ['universe'], given=export(most, one_more), **large)
+    lists = {'principals': [], 'namespaces': [''], 'verbs': ['get'], 'names': [''], 'urls': [],
+             'resources': [{'group': group, 'resource': word, 'namespaced': True} for group in groups[:1000] for word in words[:1000]]}
+    got = run(['universe'], export(most))
+    checked('a universe of a million resources', (got.returncode, got.stdout) == (0, document_text(lists).encode()), repr(got.stdout[:300]))
+    words = ['r%d' % i for i in range(4000)]
+    for command in 'matrix', 'universe':
+        ended = run([command], export(product(words, words)), most=2 ** 26)
+        checked('%s of 16 million resources in 64 MiB' % command, (ended.returncode, ended.stdout, ended.stderr) == (2, b'', large['err']), repr(ended))
+
+
 def printed(**lists):
     """The document of lists that replace all that follow from nothing."""
     whole = {'principals': [], 'namespaces': [''], 'verbs': [], 'resources': [], 'names': [''], 'urls': [], **lists}
@@ -668,5 +706,5 @@ def long_paths():
 
 if __name__ == '__main__':
     sys.exit(tested(streams, help_and_usage, full_disk, little_memory, rows, matrix_streams, universe_streams, rules_streams, lint_streams,
-                    powers_streams, paths_streams, ways_streams, limits, universe_limits, ring, long_paths, transcripts, links_and_heads, spaced_bindings, loop_of_pages,
+                    powers_streams, paths_streams, ways_streams, limits, universe_limits, wide_rules, ring, long_paths, transcripts, links_and_heads, spaced_bindings, loop_of_pages,
                     example_cluster))

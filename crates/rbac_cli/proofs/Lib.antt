@@ -1,6 +1,7 @@
 pub mod HolderLineLemmas
 pub mod LinesLemmas
 pub mod Loads
+pub mod ManyLemmas
 pub mod MatrixRowsLemmas
 pub mod Named
 pub mod OneAnswer

@@ -290,7 +290,7 @@ module _ (powers_one : PowersOne) (paths_one : PathsOne) (ways_one : WaysOne) wh
   one_answer (Single l) (Lint only skip) text other status ending (found, are, e, s) (others, these, f, t) =
       let one = one_wanted (wanted_meant (option_map vec_items only) skip) l.policy.held l.replaced found others are these in
       (e ∙ ap findings_text one ∙ sym f, s ∙ ap findings_status one ∙ sym t)
-  one_answer (Single l) Universe text other status ending (is, s) (are, t) = (one_document l.lists text other is are, s ∙ sym t)
+  one_answer (Single l) Universe text other status ending (is, few, s) (are, others, t) = (one_document l.lists text other is are, s ∙ sym t)
   one_answer (Single l) Powers text other status ending (xs, are, e, s) (ys, those, f, t) =
       (e ∙ ap powers_text (powers_one l.policy xs ys are those) ∙ sym f, s ∙ sym t)
   one_answer (Single l) (Paths who steps) text other status ending (xs, are, e, s) (ys, those, f, t) =

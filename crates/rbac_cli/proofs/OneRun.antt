@@ -68,7 +68,7 @@ lacks_for_one (Single l) (CanI who options q) f g a b = absurd a
 lacks_for_one (Single l) (WhoCan options q) f g a b = absurd a
 lacks_for_one (Single l) (WaysTo steps q) f g a b = absurd a
 lacks_for_one (Single l) (Rules who scope) f g a b = absurd a
-lacks_for_one (Single l) action.Universe f g a b = absurd a
+lacks_for_one (Single l) action.Universe f g a b = a.0 ∙ sym b.0
 lacks_for_one (Single l) (Lint only skip) f g a b = absurd a
 lacks_for_one (Single l) Powers f g a b = absurd a
 lacks_for_one (Single l) (Paths who steps) f g a b = absurd a
@@ -86,7 +86,7 @@ module _ (loads_one : LoadsOne) (no_fault : HasNoFault) (one_fault : HasOneFault
   not_lacking (Single l) (WhoCan options q) text status f a b = b
   not_lacking (Single l) (WaysTo steps q) text status f a b = b
   not_lacking (Single l) (Rules who scope) text status f a b = b
-  not_lacking (Single l) action.Universe text status f a b = b
+  not_lacking (Single l) action.Universe text status f (is, few, zero) b = few b.1
   not_lacking (Single l) (Lint only skip) text status f a b = b
   not_lacking (Single l) Powers text status f a b = b
   not_lacking (Single l) (Paths who steps) text status f a b = b

@@ -3,12 +3,15 @@ use Rattle.std.specs.Prelude.{◌≡◌, ◌≢◌, ℕ, ◌⊎◌, Bool, true, 
 use Rattle.std.specs.Prelude.{Err, MatchResult}
 use Rattle.rbac_streams.specs.Taken.{counted}
 use Rattle.rbac_terms.specs.Text.{BeginsWith}
+use Rattle.rbac_document.specs.Names.{resource_name}
+use Rattle.rbac_lists.specs.Wide.{AreTooMany}
 use Rattle.rbac_universe.specs.Sets.{HasUniverseFault}
 use Rattle.rbac_universe.specs.declared.fault.UniverseFault.{UniverseFault}
 use Rattle.rbac_universe.specs.declared.fault.UniverseFault.TheVariants as universe
 use Rattle.rbac_manifest.specs.declared.fault.LoadFault.{LoadFault}
 use Rattle.rbac_question.specs.declared.command.Action.{Action}
 use Rattle.rbac_question.specs.declared.command.Action.TheVariants.{Matrix}
+use Rattle.rbac_question.specs.declared.command.Action.TheVariants as action
 use Rattle.rbac_question.specs.declared.command.Command.{Command}
 use Rattle.rbac_cli.specs.Exports.{AreLoaded, AreInputsRefused}
 use Rattle.rbac_cli.specs.Out.{Answers}
@@ -31,11 +34,14 @@ WritesPrefix took e action n = (text : List ℕ) × (status : Status) × Answers
 abbrev pub WritesNothing : (List ℕ → Type 0) → ℕ → Type 0
 WritesNothing took n = took [] × (n ≡ 0)
 
--- the action is `matrix`, and the lists make no universe because of this fault; out of memory is a
--- fault of its own
+-- the action is `matrix`, and the lists make no universe because of this fault; or it is
+-- `universe`, and the lists have more resources than a universe may have targets (own); out of
+-- memory is a fault of its own
 abbrev pub LacksUniverse : Exports → Action → UniverseFault → Type 0
 LacksUniverse (Single l) (Matrix options after limit) fault = HasUniverseFault l.lists fault
     × (fault ≢ universe.NoMemory)
+LacksUniverse (Single l) action.Universe fault = (fault ≡ universe.TooLarge)
+    × AreTooMany resource_name l.lists.resources
 LacksUniverse e action fault = ⊥
 
 -- the inputs are loaded, and what the command means over them is written
@@ -55,8 +61,8 @@ FailsToLoad refused (Universe fault) = ⊥
 FailsToLoad refused (Memory n) = n ≡ 0
 FailsToLoad refused (Write n) = ⊥
 
--- the inputs are refused for the fault that they have, or they are loaded but make no universe for
--- a matrix, and in both cases nothing is written; or the run is out of memory; or a write failed
+-- the inputs are refused for the fault that they have, or they are loaded but lack a universe, and
+-- in both cases nothing is written; or the run is out of memory; or a write failed
 abbrev pub Faults : (List ℕ → Type 0) → Command → List (List ℕ) → RunFault → Type 0
 Faults took command inputs (Load fault) = AreInputsRefused command.action inputs fault × took []
 Faults took command inputs (Universe fault) = ((e : Exports) × AreLoaded command.action inputs e

@@ -12,6 +12,8 @@ use Rattle.rbac_model.specs.Holders.{HolderView}
 use Rattle.rbac_catalogue.specs.declared.entry.Entry.{Entry}
 use Rattle.rbac_universe.specs.Sets.{IsUniverseOf}
 use Rattle.rbac_document.specs.Document.{IsDocument}
+use Rattle.rbac_document.specs.Names.{resource_name}
+use Rattle.rbac_lists.specs.Wide.{AreTooMany}
 use Rattle.rbac_text.specs.Rule.{grant_text}
 use Rattle.rbac_text.specs.Why.{why_text}
 use Rattle.rbac_text.specs.Finding.{finding_text}
@@ -154,11 +156,12 @@ changes_status (x ∷ xs) = One
 -- `--indirect` a line for each node from which the given steps, or none, lead to one that allows
 -- what is asked, and 0 (own); `rules` a line for each rule that the principal has, and 0 (own);
 -- `matrix` a page of the rows that are listed over a universe of the lists, and 0 (own); `universe`
--- the Universe document of the lists, and 0 (own); `lint` a line for each finding that is asked
--- for, and 1 if there is one, otherwise 0 (own); `powers` a line for each step that a user or a
--- group can take, and 0 (own); `paths` a line for each node that the principal comes to by the
--- given steps, and 0 (own); `diff` a line for each change from the first policy to the second, and
--- 1 if there is one, otherwise 0 (own)
+-- the Universe document of the lists, unless they have more resources than a universe may have
+-- targets, and 0 (own); `lint` a line for each finding that is asked for, and 1 if there is one,
+-- otherwise 0 (own); `powers` a line for each step that a user or a group can take, and 0 (own);
+-- `paths` a line for each node that the principal comes to by the given steps, and 0 (own); `diff`
+-- a line for each change from the first policy to the second, and 1 if there is one, otherwise 0
+-- (own)
 abbrev pub Answers : Exports → Action → List ℕ → Status → Type 0
 Answers (Single l) (CanI who options q) text status =
     (IsAllowed l.policy.held l.catalogue.entries who q
@@ -191,7 +194,8 @@ Answers (Single l) (Matrix options after limit) text status =
     (u : UniverseView) × (rows : List RowView) × IsUniverseOf l.lists u
     × AreListedRows options l.policy.held u rows
     × (text ≡ matrix_text options.every after limit rows) × (status ≡ Zero)
-Answers (Single l) Universe text status = IsDocument l.lists text × (status ≡ Zero)
+Answers (Single l) Universe text status = IsDocument l.lists text
+    × (¬ AreTooMany resource_name l.lists.resources) × (status ≡ Zero)
 Answers (Single l) (Lint only skip_system) text status =
     (found : List Finding)
     × AreWanted (wanted_meant (option_map vec_items only) skip_system) l.policy.held l.replaced

@@ -117,11 +117,15 @@ fn basis_of(alloc: Global, export: &Export) -> Result<MatrixBasis<'_>, UniverseF
     }
 }
 
-// The universe of what was loaded. Its lists are dropped once it is built.
+// The universe of what was loaded. Its resources aren't listed if a rule by itself names too many of
+// them. Its lists are dropped once it is built.
 fn universe_of(alloc: Global, export: &Export) -> Result<Universe, UniverseFault>
     ensures { MatchResult result
         (IsUniverseOf export.now.lists) (HasUniverseFault export.now.lists) }
 {
+    if let Some(fault) = export.fault_of_wide_rule(alloc)? {
+        return Err(fault);
+    }
     let lists = export.lists(alloc)?;
     Universe::build(alloc, &lists)
 }

@@ -19,8 +19,8 @@ pub enum Status {
 pub enum RunFault {
     /// The inputs were refused, and nothing was written.
     Load(LoadFault),
-    /// The lists that were loaded make no universe for a matrix, and nothing was written. Out of
-    /// memory is `Memory`.
+    /// The lists that were loaded make no universe for a matrix, or have too many resources for
+    /// `universe`, and nothing was written. Out of memory is `Memory`.
     Universe(UniverseFault),
     /// Out of memory after this many bytes were written, at most `u128::MAX`.
     Memory { written: u128 },

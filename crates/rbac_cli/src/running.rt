@@ -32,9 +32,10 @@ use std::io::Write;
 /// For a `diff` the first inputs are the side before a change. The others are the side after it, or
 /// the objects that the change takes away, and then those that it puts over.
 ///
-/// Refuses inputs that [`load`] refuses and, for a matrix, those whose lists make no universe;
-/// nothing is written then. If it runs out of memory or a write fails, what was written is a prefix
-/// of the answer, and the fault has the number of its bytes.
+/// Refuses inputs that [`load`] refuses, for a matrix those whose lists make no universe, and for
+/// `universe` those whose lists have more resources than a universe may have targets; nothing is
+/// written then. If it runs out of memory or a write fails, what was written is a prefix of the
+/// answer, and the fault has the number of its bytes.
 #[tactic(auto, using(crate::proofs::Loads::ended))]
 pub fn run<W: Write + Drop>(
     alloc: Global,

@@ -8,7 +8,8 @@ mod naming;
 mod principals;
 mod texts;
 mod universe_lists;
+mod wide;
 
 pub use given_lists::{Account, GivenLists};
 pub use principals::users_of;
-pub use universe_lists::lists_of;
+pub use universe_lists::{fault_of_wide_rule, has_wide_rule, lists_of};

@@ -1,19 +1,28 @@
 //! The lists that a universe is made of, each given or derived.
 
-ghost use Rattle.std.specs.Prelude.{◌≡◌, IfOk, MatchOption, unwrap_or};
+ghost use Rattle.std.specs.Prelude.{◌≡◌, ◌≢◌, ◌↔◌, [], IfOk, List, IsTrue, All, MatchOption};
+ghost use Rattle.std.specs.Prelude.{Some, unwrap_or};
 ghost use Rattle.std.specs.Option.{option_copied, option_or};
 ghost use Rattle.rbac_lists.specs.Derived.{principals_of, namespaces_of, verbs_of, resources_of};
 ghost use Rattle.rbac_lists.specs.Derived.{names_of, urls_of};
-ghost use Rattle.rbac_lists.specs.Meant.{last_given, lists_meant};
+ghost use Rattle.rbac_lists.specs.Meant.{last_given, given_or as last_or_derived, lists_meant};
+ghost use Rattle.rbac_lists.specs.Wide.{has_wide_rule, AreTooMany};
+ghost use Rattle.rbac_lists.specs.declared.given_lists.Account.{Account as Listed};
+ghost use Rattle.rbac_terms.specs.Text.{Text};
+ghost use Rattle.rbac_terms.specs.Targets.{is_path};
+ghost use Rattle.rbac_universe.specs.Sets.{HasUniverseFault};
+ghost use Rattle.rbac_universe.specs.Stems.{stem_name};
+ghost use Rattle.rbac_universe.specs.declared.fault.UniverseFault.TheVariants.{NoMemory};
 
 use crate::derived_lists::{
     names_of, namespaces_of, principals_of, resources_of, urls_of, verbs_of,
 };
 use crate::given_lists::{Account, GivenLists};
+use crate::wide::has_wide_source;
 use rbac_catalogue::Catalogue;
 use rbac_model::Objects;
-use rbac_terms::{Word, Words};
-use rbac_universe::{ListedResources, Principals, UniverseLists};
+use rbac_terms::{Word, Words, is_path};
+use rbac_universe::{ListedResources, Principals, UniverseFault, UniverseLists};
 use std::alloc::{AllocError, Global};
 
 // Of each list, the last one that the documents give.
@@ -44,6 +53,79 @@ pub fn lists_of(
 {
     let given = last_lists(documents);
     lists_over(alloc, objects, catalogue, namespaces, accounts, given)
+}
+
+/// Whether the resources of a universe are derived from rules, and one of these rules by itself
+/// names more different resources than a universe may have targets (own). They are counted, and not
+/// listed. Fails only if it runs out of memory.
+pub fn has_wide_rule(
+    alloc: Global,
+    objects: &Objects,
+    catalogue: &Catalogue,
+    documents: &[GivenLists],
+) -> Result<bool, AllocError>
+    ensures wide { IfOk result
+        (λ wide. wide ≡ has_wide_rule objects.now catalogue.now documents.now) }
+    ensures many { IfOk result (λ wide. IsTrue wide → AreTooMany stem_name
+        (last_or_derived (resources_of objects.now catalogue.now) (λ d. d.resources) documents.now)) }
+{
+    if last_lists(documents).resources.is_some() || catalogue.is_given() {
+        return Ok(false);
+    }
+    has_wide_source(alloc, objects)
+}
+
+/// Why the lists make no universe, if a rule by itself names too many resources: P3 BadTarget if a
+/// given URL isn't a path, otherwise P4 TooLarge. `None` if no rule does, or if the lists have no
+/// object name, so that no resource is asked about. The resources aren't listed. Fails only if it
+/// runs out of memory.
+pub fn fault_of_wide_rule(
+    alloc: Global,
+    objects: &Objects,
+    catalogue: &Catalogue,
+    documents: &[GivenLists],
+) -> Result<Option<UniverseFault>, AllocError>
+    ensures none { IfOk result (λ found. MatchOption found
+        (¬ (IsTrue (has_wide_rule objects.now catalogue.now documents.now)
+        × (last_or_derived (names_of objects.now) (λ d. d.names) documents.now ≢ [])))
+        (λ fault. fault ≢ NoMemory)) }
+    ensures fault { IfOk result (λ found.
+        (namespaces : List Text) (accounts : List Listed) → MatchOption found (Unit {0})
+        (HasUniverseFault
+        (lists_meant objects.now catalogue.now namespaces accounts documents.now))) }
+{
+    if !has_wide_rule(alloc, objects, catalogue, documents)? {
+        return Ok(None);
+    }
+    let last = last_lists(documents);
+    if is_given_empty(last.names) {
+        return Ok(None);
+    }
+    if are_paths(last.urls) {
+        return Ok(Some(UniverseFault::TooLarge));
+    }
+    Ok(Some(UniverseFault::BadTarget))
+}
+
+// Whether a list is given, and is empty.
+fn is_given_empty(given: Option<&Words>) -> bool
+    ensures { IsTrue result ↔ (option_copied given.entry ≡ Some []) }
+{
+    match given {
+        Some(words) => words.is_empty(),
+        None => false,
+    }
+}
+
+// Whether each URL is a path, if URLs are given.
+fn are_paths(given: Option<&Words>) -> bool
+    ensures { IsTrue result
+        ↔ MatchOption (option_copied given.entry) (Unit {0}) (All (λ path. IsTrue (is_path path))) }
+{
+    match given {
+        Some(urls) => urls.as_slice().iter().all(|path| is_path(path.as_bytes())),
+        None => true,
+    }
 }
 
 // Each list given or derived.

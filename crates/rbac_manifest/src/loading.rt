@@ -1,6 +1,7 @@
 //! Reads inputs into what they give and the policy that follows from it.
 
 ghost use Rattle.std.specs.Prelude.{◌≡◌, ◌≢◌, ◌++◌, [], All, OnOk, IfOk, IfErr, None, Some};
+ghost use Rattle.std.specs.Prelude.{IsTrue, MatchOption};
 ghost use Rattle.rbac_lists.specs.Derived.{subject_principals};
 ghost use Rattle.rbac_manifest.specs.declared.fault.Cause.TheVariants.{NoMemory};
 ghost use Rattle.rbac_manifest.specs.Load.{file_refusal, contents_of_file};
@@ -13,6 +14,10 @@ ghost use Rattle.rbac_manifest.specs.Reads.{Yields};
 ghost use Rattle.rbac_manifest.specs.Replaced.{AreReplaced, replaced_name};
 ghost use Rattle.rbac_model.specs.Lists.{IsAscendingBy};
 ghost use Rattle.rbac_terms.specs.Principals.{given_of};
+ghost use Rattle.rbac_lists.specs.Wide.{AreTooMany};
+ghost use Rattle.rbac_universe.specs.Sets.{HasUniverseFault};
+ghost use Rattle.rbac_universe.specs.Stems.{stem_name};
+ghost use Rattle.rbac_universe.specs.declared.fault.UniverseFault.TheVariants.{NoMemory as LacksMemory};
 
 use crate::content::Content;
 use crate::contents::Contents;
@@ -20,11 +25,11 @@ use crate::document_list::text_contents;
 use crate::fault::{Cause, LoadFault, Refusal};
 use crate::replacement::{Replaced, replaced_of};
 use rbac_catalogue::Catalogue;
-use rbac_lists::{Account, GivenLists, lists_of, users_of};
+use rbac_lists::{Account, GivenLists, fault_of_wide_rule, has_wide_rule, lists_of, users_of};
 use rbac_model::{Object, Objects, Policy, ResolveFault};
 use rbac_streams::Input;
 use rbac_terms::Word;
-use rbac_universe::{Principals, UniverseLists};
+use rbac_universe::{Principals, UniverseFault, UniverseLists};
 use simdutf8::basic::from_utf8;
 use std::alloc::{AllocError, Global};
 use std::marker::Model;
@@ -106,6 +111,28 @@ impl Export {
         ensures ordered { IsAscendingBy replaced_name self.now.replaced }
     {
         self.replaced.as_slice()
+    }
+
+    /// Whether a rule from which resources are derived names more of them by itself than a universe
+    /// may have targets (own). They aren't listed. Fails only if it runs out of memory.
+    pub fn has_wide_rule(&self, alloc: Global) -> Result<bool, AllocError>
+        ensures { IfOk result
+            (λ wide. IsTrue wide → AreTooMany stem_name self.now.lists.resources) }
+    {
+        let documents = self.documents.as_slice();
+        has_wide_rule(alloc, self.policy().objects(), self.catalogue(), documents)
+    }
+
+    /// Why the lists make no universe, if a rule by itself names more resources than a universe may
+    /// have targets (own): P3 or P4. The resources aren't listed, so it takes no memory for them.
+    /// `None` doesn't say that they make one. Fails only if it runs out of memory.
+    pub fn fault_of_wide_rule(&self, alloc: Global) -> Result<Option<UniverseFault>, AllocError>
+        ensures fault { IfOk result
+            (λ found. MatchOption found (Unit {0}) (HasUniverseFault self.now.lists)) }
+        ensures memory { IfOk result (λ found. found ≢ Some LacksMemory) }
+    {
+        let given = self.documents.as_slice();
+        fault_of_wide_rule(alloc, self.policy().objects(), self.catalogue(), given)
     }
 
     /// The lists that a universe is made of (own): each as given by the last Universe document that

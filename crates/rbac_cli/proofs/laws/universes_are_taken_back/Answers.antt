@@ -1,7 +1,7 @@
 use Rattle.rbac_cli.proofs.laws.universes_are_taken_back.Goals as goal
 
 pub returns : goal.returns
-returns c = λ inputs l text status loaded readable (is, zero).
+returns c = λ inputs l text status loaded readable (is, few, zero).
     let (each, once, again) = c.documents_are_taken_back.ensures inputs l text loaded readable is in
     let same = c.once_each_is_the_same_universe.ensures in (
       record l { lists = each },

@@ -14,7 +14,7 @@ returns-in_err-print g c =
     let stops = rw c.as_slice.ensures.value at ended.err in
     let p = err_from_is_err_and c.from_residual-in_err-print.result c.from_residual-in_err-print.ensures.1 in
     rw (p.1, p.2) (record {
-      ends = stops_within g.W.Write.contents c.args.output.now c.print.new.self (Single c.args.export.now) Universe fault (document.items, Zero, (c.in_ok-document.ensures, refl), stops);
+      ends = stops_within g.W.Write.contents c.args.output.now c.print.new.self (Single c.args.export.now) Universe fault (document.items, Zero, (c.in_ok-document.ensures.ok.0, c.in_ok-document.ensures.ok.1, refl), stops);
       failed = failed_by fault c.print.new.self.sink.now.has_failed ended.failed;
       same = ended.same;
     })
@@ -25,7 +25,7 @@ returns g c =
     let ended = c.in_ok-print.ensures in
     let printed = rw c.as_slice.ensures.value at ended.ok in
     record {
-      ends = (document.items, (c.in_ok-document.ensures, refl), printed);
+      ends = (document.items, (c.in_ok-document.ensures.ok.0, c.in_ok-document.ensures.ok.1, refl), printed);
       failed = ended.failed;
       same = ended.same;
     }
