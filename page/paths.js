@@ -82,12 +82,17 @@ class Answer {
     }
 }
 
-const LINES = PAGE.paths && new Rows(PAGE.paths.lines, PATH_FIELDS);
-const GIVEN = PAGE.paths ? PAGE.paths.answers.map(it => new Answer(it)) : [];
-const PATHS = GIVEN.filter(it => !it.isOfRequest);
-const REQUESTS = GIVEN.filter(it => it.isOfRequest);
-// Whether principals were asked about; of files without lines, that isn't known.
-const IS_ABOUT_WHO = PAGE.paths !== null && (PATHS.length > 0 || !REQUESTS.length);
+let LINES, PATHS, REQUESTS, IS_ABOUT_WHO;
+
+// Takes the paths of the page, once they are read.
+function takePaths({paths}) {
+    LINES = paths && new Rows(paths.lines, PATH_FIELDS);
+    const given = paths ? paths.answers.map(it => new Answer(it)) : [];
+    PATHS = given.filter(it => !it.isOfRequest);
+    REQUESTS = given.filter(it => it.isOfRequest);
+    // (whether principals were asked about; of files without lines, that isn't known)
+    IS_ABOUT_WHO = paths !== null && (PATHS.length > 0 || !REQUESTS.length);
+}
 
 // ---- texts
 

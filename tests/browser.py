@@ -119,7 +119,7 @@ class Browser:
         self.requests.clear()
         began = time.monotonic()
         self.ask('Page.navigate', url='file://' + path)
-        self.until('document.readyState === "complete"')
+        self.until('document.readyState === "complete" && !document.querySelector("[aria-busy]")')
         self.frame()
         return time.monotonic() - began
 

@@ -12,7 +12,7 @@ import subprocess
 from common import PROGRAM, V1
 from plugin_questions import stale_roles
 from plugin_room import CAUTION, NO_SPACE, PLUGIN, RBAC, REFUSAL, in_each_shell, served
-from written import FILTER, Parts, lines_in
+from written import FILTER, Parts, lines_in, rows_in
 
 TITLE = 'Who can do what'
 # Another binding for one who is an admin already, and a universe of one verb.
@@ -74,7 +74,7 @@ def on_page(text):
     data = parts.data()
     findings = ['\t'.join(finding) for finding in data['findings']]
     changes = data['changes'] and lines_in(data['changes'])
-    return (parts.texts['title', None], lines_in(data['rows']), findings, changes,
+    return (parts.texts['title', None], rows_in(data['rows']), findings, changes,
             lines_in(data['named']))
 
 
@@ -300,7 +300,7 @@ def plugin_files(it):
     it.checked('--output writes the page', it.read('whole.html')
                == it.run('page', '--export', 'prod')[1], 'another page')
     for name, body, said in (
-            ('too many rows', ENDLESS, 'rbacaudit-page: there are more than 500000 rows'),
+            ('too many rows', ENDLESS, ' rows make more than 4000000 parts, too many for a page in a browser: '),
             ('a fault of the matrix', FAULTY, 'kubectl-rbacaudit: file 2 is my verbs.json\n'),
             ('a matrix that is cut off', CUT, 'rows may be missing')):
         os.remove(os.path.join(it.bin, 'rbacaudit'))
