@@ -73,13 +73,18 @@ class WatchView {
         const more = isWhole ? all.filter(row => !isOfWhole(row)
             && !EVERYWHERE.byCluster[ROWS.place(row, 'binding')]) : [];
         const where = isWhole ? [] : [...new Set(all.map(row => this.scope.placeOf(row)))];
+        return [this.who(it), isWhole ? [this.whole(), ...this.also(more)] : this.namespaces(where),
+            id === 'everything' ? 'all common verbs on '
+                + counted(new Set(rows.map(row => ROWS.typeOf(row))).size, 'type') : this.uses(rows),
+            bindingLinks(new Set([...rows, ...more].map(row => ROWS.place(row, 'binding'))))];
+    }
+
+    // The first types of some rows, with their verbs.
+    uses(rows) {
         const lines = linesOf(rows, row => this.scope.placeOf(row));
         const uses = grouped(lines, line => line.group + '\t' + line.resource);
-        const shown = [...uses.values()].slice(0, 4).map(lines => this.use(lines));
-        return [this.who(it), isWhole ? [this.whole(), ...this.also(more)] : this.namespaces(where),
-        id === 'everything' ? `all common verbs on ${counted(uses.size, 'type')}`
-            : [shown, uses.size > 4 ? `and ${uses.size - 4} more types` : ''],
-        bindingLinks(new Set([...rows, ...more].map(row => ROWS.place(row, 'binding'))))];
+        return [[...uses.values()].slice(0, 4).map(found => this.use(found)),
+            uses.size > 4 ? `and ${uses.size - 4} more types` : ''];
     }
 
     who(it) {
