@@ -39,7 +39,7 @@ let current = '';
 
 function address() {
     const [view, query = ''] = location.hash.slice(1).split(/\?(.*)/s);
-    return [Object.hasOwn(VIEWS, view) || view === 'find' ? view : 'who',
+    return [Object.hasOwn(VIEWS, view) || view === 'find' ? view : PATHS.length ? 'paths' : 'who',
         Object.fromEntries(new URLSearchParams(query))];
 }
 

@@ -147,6 +147,26 @@ function whoTakeOverEverything() {
         .sort((a, b) => a.reach.everything - b.reach.everything);
 }
 
+// Who can take over how much, most first: everything in the whole cluster, in the fewest steps;
+// everything in the most namespaces; the most accounts; the most in all.
+function ranked() {
+    const accounts = ({reach}) => reach.counts['service account'] || 0;
+    const others = PATHS.filter(it => it.reach.everything === undefined).sort((a, b) =>
+        b.reach.places.length - a.reach.places.length || accounts(b) - accounts(a)
+        || b.length - a.length);
+    return [...whoTakeOverEverything(), ...others];
+}
+
+// What the list of principals lacks.
+function missedNodes() {
+    const {unasked} = PAGE;
+    return unasked === null ? ['Whoever isn’t listed can take over nobody and nothing, or wasn’t asked '
+        + 'about.'] : ['Whoever isn’t listed can take over nobody and nothing, but for what the groups '
+        + 'they are in can. ', unasked.length ? make('b', {class: 'missed'},
+        counted(unasked.length, 'principal'), ' with a power weren’t asked about: ',
+        namesNodes(unasked.map(textOf), 5), '.') : 'Everybody with a power was asked about.'];
+}
+
 class PathsView {
     constructor() {
         this.shown = [];
@@ -162,8 +182,8 @@ class PathsView {
             make('h2', {}, 'What principals can take over'),
             filterInput('Filter principals', 'q', 'filter principals'), this.summary),
         make('p', {class: 'why'}, 'By rbacaudit paths: whom and what each principal can take over, '
-            + 'step by step. Whoever can take over everything in the whole cluster is listed first. '
-            + 'Whoever isn’t listed can take over nobody and nothing, or wasn’t asked about.'),
+            + 'step by step. Whoever can take over the most is listed first: everything in the whole '
+            + 'cluster, everything in a namespace, service accounts. ', missedNodes()),
         emptyNodes(), this.sheet.element);
         this.detail = new AnswerView('paths', ['Can take over', 'Last step', 'From']);
         this.element = make('div', {class: 'view'});
@@ -178,9 +198,8 @@ class PathsView {
         }
         fill(this.list, params);
         const wants = wantedBy(params.q || '');
-        const others = PATHS.filter(it => it.reach.everything === undefined)
-            .sort((a, b) => b.length - a.length);
-        this.shown = [...whoTakeOverEverything(), ...others].filter(({who}) => wants(who, 'who'));
+        this.ranked ||= ranked();
+        this.shown = this.ranked.filter(({who}) => wants(who, 'who'));
         this.summary.textContent = counted(this.shown.length, 'principal');
         this.sheet.show(this.shown.length);
     }
@@ -191,10 +210,17 @@ class PathsView {
             anchor('paths', {who: it.who}, principalNodes(it.who)));
         const where = everything !== undefined ? anchor('paths', {who: it.who, node: ALL_THERE_IS},
             make('b', {class: 'whole'}, 'whole cluster'), ` in ${counted(everything, 'step')}`)
-            : places.length ? namesNodes(places.map(textOf), 3) : muted('–');
+            : places.length ? this.placeLinks(it.who, places) : muted('–');
         const numbers = [...Object.keys(KINDS).map(kind => counts[kind]), it.length, it.most];
         return [name, cell('', where), ...numbers.map(number =>
             cell('number', number ? figure(number) : muted('–')))];
+    }
+
+    // Namespaces with a link to the path to everything there.
+    placeLinks(who, places_) {
+        return [...places_.slice(0, 3).flatMap((place, at) => [at ? ', ' : '',
+            anchor('paths', {who, node: '*\t' + place}, make('bdi', {}, nodesOf(textOf(place))))]),
+        places_.length > 3 ? muted(` and ${figure(places_.length - 3)} more`) : ''];
     }
 }
 

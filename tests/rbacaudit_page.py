@@ -26,7 +26,7 @@ from plugin_page import (plugin_files, plugin_names, plugin_notices, plugin_page
                          plugin_stale, plugin_types)
 from shown import in_browser
 sys.path.append(os.path.join(TOP, 'plugin'))
-from rbacaudit_kubectl.page_rows import Rows  # noqa: E402
+from rbacaudit_kubectl.page_rows import MOST_PARTS, MOST_TEXT, Rows  # noqa: E402
 from rbacaudit_kubectl.terminal import Progress, Refused  # noqa: E402
 from written import (CHANGES, DEVS, FILTER, FINDINGS, KIM, NAMED, OPS, READERS, SMALL, Parts, contents,
                      file_of, lines_in, made, named_strangers, path_strangers, rows_in, rows_of, same, steps,
@@ -193,6 +193,7 @@ def refusals():
     with file_of(SMALL) as rows:
         for option, said in (('--lint', 'no line of rbacaudit lint'),
                              ('--diff', 'no line of changes'),
+                             ('--unasked', 'no line of principals'),
                              ('--named', 'no line of holders by name'),
                              ('--namespaced', 'no line of API group and resource'),
                              ('--notices', None), ('--about', None)):
@@ -528,19 +529,21 @@ def helped():
     told_ = told(sys.executable, FILTER, '--help', env=dict(os.environ, COLUMNS='100'))
     options = dict(re.findall(r'^  (?:-h, )?--(\w+)(?: [A-Z]+)?  +(.*)$', told_, re.M))
     same('help: the options', [*options],
-         ['help', 'lint', 'diff', 'paths', 'named', 'namespaced', 'notices', 'about', 'title',
-          'output', 'watched'])
+         ['help', 'lint', 'diff', 'paths', 'unasked', 'named', 'namespaced', 'notices', 'about', 'title',
+          'output', 'plain', 'watched'])
     man = contents('man', 'rbacaudit-page.1')
     same('man: the options', re.findall(r'^\.TP\n.*\\-\\-(\w+)\\fR', man, re.M), [*options])
     checked('man: the default of --title', 'Default: Who can do what.' in man)
-    checked('man: the most rows', re.search(r'More than ([\d,]+) rows', man)[1] == '500,000')
+    same('man: the most parts, bytes of names, and lines of paths',
+         [int(text.replace(',', '')) for text in re.findall(r'[Mm]ore than ([\d,]+) parts|have ([\d,]+) bytes|More than ([\d,]+) lines', man)
+          for text in text if text], [MOST_PARTS, MOST_TEXT, 500000])
     fish = contents('completions', 'rbacaudit-page.fish')
     same('fish: the options', dict(re.findall(r"-l (\w+) .*?-d '(.*)'$", fish, re.M)), options)
     zsh = contents('completions', '_rbacaudit-page')
     same('zsh: the options', dict(re.findall(r"--(\w+)=?\}?'?\[(.*?)\]", zsh)), options)
     path = os.path.join(TOP, 'completions', 'rbacaudit-page.bash')
-    for line, wanted in (('rbacaudit-page --', '--lint --diff --paths --named --namespaced --notices '
-                                    '--about --title --output --watched --help'),
+    for line, wanted in (('rbacaudit-page --', '--lint --diff --paths --unasked --named --namespaced --notices '
+                                    '--about --title --output --plain --watched --help'),
                          ('rbacaudit-page --lint x --t', '--title'),
                          ('rbacaudit-page --named -', ''), ('rbacaudit-page --paths -', ''),
                          ('rbacaudit-page --title -', '')):

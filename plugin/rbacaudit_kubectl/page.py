@@ -32,7 +32,7 @@ MOST_LINES = 500_000
 MOST_PLAIN = 200_000    # how much JSON a page has that isn't packed
 PIECE = 50_000          # how many items of a list are written at once
 CHANGE = re.compile('[+-]\t(?:%s|r:%s(?:\t%s){5}\t-)' % (ROW_FORM, ROLE, FIELD))
-FINDING, TYPE = re.compile('%s(?:\t%s){4}' % (FIELD, FIELD)), re.compile('%s\t%s' % (FIELD, FIELD))
+WHO, FINDING, TYPE = re.compile(PRINCIPAL), re.compile('%s(?:\t%s){4}' % (FIELD, FIELD)), re.compile('%s\t%s' % (FIELD, FIELD))
 NAMED, NOTICE = re.compile('(?:%s\t){3}%s\t%s' % (FIELD, PRINCIPAL, BINDING)), re.compile(r'[^\x00-\x08\x0a-\x1f\x7f]+')
 ABOUT = re.compile('(context|server|version|time|only): (.+)')
 HERE = os.path.dirname(os.path.realpath(__file__))
@@ -47,15 +47,17 @@ without the network.
   rbacaudit matrix --once *.json | rbacaudit-page --output access.html
 """
 MORE = """\
-The rows are read from standard input, with their last line, end or next. More than %d are
-refused. --paths may be given more than once: its files may have as many lines in all. Without
---output the page goes to standard output. Exit status: 0 the page is written; 2 an error.
+The rows are read from standard input, with their last line, end or next. More than a browser holds
+are refused (man rbacaudit-page). --paths may be given more than once: its files may have %d lines
+in all. Without --output the page goes to standard output. Exit status: 0 the page is written; 2 an
+error.
 """ % MOST_LINES
 # Each option with its value and what it means.
 OPTIONS = (
     ('lint', 'FILE', 'findings to show with the rows: lines of rbacaudit lint'),
     ('diff', 'FILE', 'changes to show with the rows: lines of rbacaudit diff'),
     ('paths', 'FILE', 'paths to show with the rows: lines of rbacaudit paths or who-can --indirect'),
+    ('unasked', 'FILE', 'principals whose paths the page lacks: u:NAME or g:NAME'),
     ('named', 'FILE', 'holders limited to object names: verb, API group, resource, who, binding'),
     ('namespaced', 'FILE', 'types that have namespaces: API group and resource'),
     ('notices', 'FILE', 'lines to show at the top, such as what the rows lack'),
@@ -71,7 +73,7 @@ def read_options(words: Sequence[str]) -> argparse.Namespace:
     for name, value, text in OPTIONS:
         parser.add_argument('--' + name, metavar=value, help=text, action='append' if name == 'paths' else 'store',
                             default={'title': 'Who can do what', 'paths': []}.get(name))
-    parser.add_argument('--plain', action='store_true', help='write no packed data, for browsers that can\'t unpack them')
+    parser.add_argument('--plain', action='store_true', help='pack nothing, for browsers before 2023')
     parser.add_argument('--watched', action='store_true', help='print the watch list: step, verb, API group and resource')
     return parser.parse_args(words)
 
@@ -120,7 +122,7 @@ def beside(given: argparse.Namespace) -> tuple[dict[str, object], dict[str, obje
         return None if lines is None else [line.split('\t') for line in lines]
 
     small: dict[str, object] = {'namespaced': split(types), 'notices': lines(given.notices, NOTICE, 'text') or [],
-                                'about': {} if given.about is None else about(given.about)}
+                                'unasked': lines(given.unasked, WHO, 'principals'), 'about': {} if given.about is None else about(given.about)}
     return small, {'findings': split(findings), 'changes': None if changes is None else coded(changes, 8),
                    'paths': answers.coded() if given.paths else None, 'named': None if named is None else coded(named, 5)}
 
