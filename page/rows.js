@@ -178,8 +178,9 @@ class RowsView {
         const count = this.shown.length;
         const text = this.pieces(row => this.rows.line(row) + '\n').then(found => found.join(''));
         writeToClipboard(text, count > PIECE).then(() => say(`${counted(count, 'row')} copied`),
-            fault => text.then(() => say('This browser lets no page copy here: save the rows instead'),
-                () => say(fault instanceof Stopped ? 'Stopped: no row is copied' : 'No row is copied')));
+            () => text.then(() => say('This browser lets no page copy here: save the rows instead'),
+                fault => say(fault instanceof Stopped ? 'Stopped: no row is copied'
+                    : 'These rows are too many to copy: save them instead')));
     }
 
     // (The mark at the beginning is for spreadsheets that know UTF-8 by it alone.)
@@ -206,6 +207,7 @@ class Stopped extends Error {}
 async function writeToClipboard(text, isLong) {
     if (isLong && window.ClipboardItem) {
         const blob = text.then(it => new Blob([it], {type: 'text/plain'}));
+        blob.catch(() => {});   // (whoever waits for the text says so)
         return navigator.clipboard.write([new ClipboardItem({'text/plain': blob})]);
     }
     return navigator.clipboard.writeText(await text);

@@ -150,6 +150,21 @@ class Browser:
                      windowsVirtualKeyCode=code, **({'text': text} if text else {}))
         self.frame()
 
+    def memory(self):
+        """The most bytes of memory that a process of a page has had at once."""
+        found, waiting, parents = [0], [self.process.pid], {}
+        for name in filter(str.isdigit, os.listdir('/proc')):
+            with contextlib.suppress(OSError), open('/proc/%s/stat' % name, encoding='utf-8', errors='replace') as file:
+                parents.setdefault(int(file.read().rpartition(')')[2].split()[1]), []).append(int(name))
+        while waiting:
+            number = waiting.pop()
+            waiting += parents.get(number, [])
+            with contextlib.suppress(OSError), open('/proc/%d/cmdline' % number, encoding='utf-8', errors='replace') as file:
+                if '--type=renderer' in file.read():
+                    with open('/proc/%d/status' % number, encoding='utf-8') as status:
+                        found += [1024 * int(line.split()[1]) for line in status if line.startswith('VmHWM:')]
+        return max(found)
+
     def close(self):
         with contextlib.suppress(OSError, EOFError, TimeoutError, RuntimeError):
             self.session = None

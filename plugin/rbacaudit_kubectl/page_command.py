@@ -14,6 +14,7 @@ from .export import open_export, write_about
 from .fields import has_name, in_field
 from .listed import Type, list_types, make_universe
 from .options import read_options
+from .page_paths import Paths, words_for
 from .processes import Session
 from .question import Question, check_cluster
 from .remarks import look_for_universes, on_namespace, stale_in
@@ -57,6 +58,9 @@ def write_page(asking: Asking) -> int:
         write_about(session, options, export.folder, export.read)
     about = export.path('about.txt') if export and export.has('about.txt') else ''
     words = [word for name, value in texts.items() for word in (name, session.write('page' + name, value))]
+    paths = Paths(asking)
+    paths.ask()
+    words += [*words_for(paths)]
     words += ['%s=%s' % pair for pair in (('--diff', options.diff), ('--about', about), ('--title', options.title), ('--output', options.output))
               if pair[1]]
     place = {'namespaces': ['', options.namespace]} if options.namespace else {}
