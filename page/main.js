@@ -39,7 +39,8 @@ let current = '';
 
 function address() {
     const [view, query = ''] = location.hash.slice(1).split(/\?(.*)/s);
-    return [Object.hasOwn(VIEWS, view) || view === 'find' ? view : PATHS.length ? 'paths' : 'who',
+    const first = PATHS.length ? 'paths' : 'who';
+    return [Object.hasOwn(VIEWS, view) || view === 'find' ? view : first,
         Object.fromEntries(new URLSearchParams(query))];
 }
 
@@ -166,8 +167,8 @@ function openPage() {
     if (PAGE.packed === undefined) {
         begin();
     } else if (!window.DecompressionStream) {
-        main.append(make('p', {class: 'notice'}, 'This browser can’t unpack the page. Open it in a newer '
-            + 'one, or make it with rbacaudit-page --plain.'));
+        main.append(make('p', {class: 'notice'}, 'This browser can’t unpack the page. Open it in a '
+            + 'newer one, or make it with rbacaudit-page --plain.'));
     } else {
         main.setAttribute('aria-busy', 'true');
         document.getElementById('facts').textContent = 'Opening…';

@@ -160,9 +160,9 @@ function ranked() {
 // What the list of principals lacks.
 function missedNodes() {
     const {unasked} = PAGE;
-    return unasked === null ? ['Whoever isn’t listed can take over nobody and nothing, or wasn’t asked '
-        + 'about.'] : ['Whoever isn’t listed can take over nobody and nothing, but for what the groups '
-        + 'they are in can. ', unasked.length ? make('b', {class: 'missed'},
+    const nobody = 'Whoever isn’t listed can take over nobody and nothing';
+    return unasked === null ? [nobody + ', or wasn’t asked about.']
+        : [nobody + ', but for what the groups they are in can. ', unasked.length ? make('b', {class: 'missed'},
         counted(unasked.length, 'principal'), ' with a power weren’t asked about: ',
         namesNodes(unasked.map(textOf), 5), '.') : 'Everybody with a power was asked about.'];
 }

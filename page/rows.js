@@ -195,15 +195,16 @@ class RowsView {
             setTimeout(() => URL.revokeObjectURL(address), 60000);
             say(`${counted(count, 'row')} saved`);
         } catch (fault) {
-            say(fault instanceof Stopped ? 'Stopped: no row is saved' : 'The rows can’t be saved here');
+            say(fault instanceof Stopped ? 'Stopped: no row is saved'
+                : 'These rows are too many to save here');
         }
     }
 }
 
 class Stopped extends Error {}
 
-// Writes a text to the clipboard, which a page may only begin to do while it is clicked: one that takes
-// longer is promised.
+// Writes a text to the clipboard, which a page may only begin to do while it is clicked: one that
+// takes longer is promised.
 async function writeToClipboard(text, isLong) {
     if (isLong && window.ClipboardItem) {
         const blob = text.then(it => new Blob([it], {type: 'text/plain'}));

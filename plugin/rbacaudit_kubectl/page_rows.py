@@ -237,13 +237,12 @@ class Rows:
         for rank, entry in enumerate(order):
             ranks[entry] = rank
         self.keys.clear()
-        tails = list(self.tails)
+        columns = [Column(tail.split(b'\t')[at] for tail in self.tails) for at in range(4)]
         self.tails.clear()
-        columns = [Column(tails[entry].split(b'\t')[at] for entry in order) for at in range(4)]
         members = (ranks[entry] for key in self.sets for entry in array('I', key))
         return {'count': self.count,
                 'words': [texts_of(words) for words in (self.who, self.namespaces, *(column.places for column in columns), self.binders)],
-                'entries': [differences(column.numbers) for column in columns],
+                'entries': [differences(map(column.numbers.__getitem__, order)) for column in columns],
                 'sets': [differences(len(key) // 4 for key in self.sets), differences(members)],
                 'runs': [differences(column) for column in self.runs], 'grants': [differences(column) for column in self.grants]}
 
