@@ -11,14 +11,18 @@ import re
 import select
 import signal
 import subprocess
+import sys
 import time
 
-from common import PROGRAM, V1
+from common import PROGRAM, TOP, V1
 from escalation import paths, powers
 from paths import read_files
 from plugin_questions import stale_roles
 from plugin_room import CAUTION, NO_SPACE, PLUGIN, RBAC, REFUSAL, in_each_shell, served
-from written import FILTER, Parts, lines_in, rows_in
+from written import DEVS, FILTER, KIM, OPS, Parts, lines_in, rows_in, same
+
+sys.path.append(os.path.join(TOP, 'plugin'))
+from rbacaudit_kubectl.page_paths import reach_of, shortened  # noqa: E402
 
 TITLE = 'Who can do what'
 # Another binding for one who is an admin already, and a universe of one verb.
@@ -317,9 +321,9 @@ def plugin_files(it):
 
 # The program, but a matrix gives some rows, and then some more, and hangs.
 SLOW = """for at in 1 2; do yes 'u:ann	-	get	-	pods	-	ClusterRoleBinding/b' | head -n 20000; sleep 1.2; done; echo $$ > '%s'; exec sleep 300"""
-# The program, but whoever is asked about can take over 150,001 others.
+# The program, but whoever is asked about can take over 100,000 others.
 MANY_PATHS = """#!/bin/sh
-[ "$1" != paths ] || exec awk -v "who=$3" 'BEGIN { for (at = 0; at < 150001; at++)
+[ "$1" != paths ] || exec awk -v "who=$3" 'BEGIN { for (at = 0; at < 100000; at++)
     printf "1\\tu:%%d\\t-\\t%%s\\t-\\timpersonate\\tClusterRoleBinding/b\\tClusterRole/r\\tClusterRole/r\\t1\\t1\\n", at, who }'
 exec '%s' "$@"
 """
@@ -379,9 +383,22 @@ def plugin_reach(it):
     stand_in(it, MANY_PATHS % PROGRAM)
     status, out, err = got = it.run('page', '--export', 'prod')
     data = Parts(out).data()
-    asked = [who for _, who, *_ in data['paths']['answers']]
-    it.checked('who has the most powers in the whole cluster is asked about first', (status, asked) == (0, ['u:dana@example.com']), asked)
-    it.checked('there is no room for the others', sorted([*data['unasked'], *asked]) == sorted(wanted), data['unasked'])
+    answers = {who: end - first for _, who, first, end in data['paths']['answers']}
+    it.checked('who has the most powers in the whole cluster is asked about first, and there is room for a part of the others',
+               (status, [*answers][0], answers) == (0, 'u:dana@example.com', {**dict.fromkeys(wanted, 3), 'u:dana@example.com': 100000}), answers)
+    it.checked('how far the others reach', sorted(data['reach']) == sorted(
+        [who, '-', '0', '100000', '0', '0', '0', '100000', '1'] for who in answers if answers[who] == 3) and data['unasked'] == [], data['reach'])
+
+
+def plugin_parts():
+    """Of an answer that isn't whole, the lines that lead to everything stay, and its numbers are told."""
+    for name, lines, left, reach in (
+            ('everything in the whole cluster', KIM, KIM[:2], 'u:kim 2 0 1 0 1 0 3 2'),
+            ('everything in a namespace', DEVS, DEVS[:1], 'g:devs - 1 0 0 2 0 3 2'),
+            ('no everything', OPS, OPS, 'g:ops - 0 0 0 1 1 2 2')):
+        text = ''.join(line + '\n' for line in lines)
+        same('parts: %s: what stays' % name, shortened(text), ''.join(line + '\n' for line in left))
+        same('parts: %s: how far' % name, reach_of(lines[0].split('\t')[3], text), reach.replace(' ', '\t'))
 
 
 @in_each_shell

@@ -22,7 +22,7 @@ import tempfile
 import time
 
 from common import TOP, checked, skipped, tested
-from plugin_page import (plugin_files, plugin_names, plugin_notices, plugin_pages, plugin_places, plugin_progress, plugin_reach,
+from plugin_page import (plugin_files, plugin_names, plugin_notices, plugin_pages, plugin_parts, plugin_places, plugin_progress, plugin_reach,
                          plugin_refusals, plugin_stale, plugin_types)
 from shown import in_browser
 sys.path.append(os.path.join(TOP, 'plugin'))
@@ -193,7 +193,7 @@ def refusals():
     with file_of(SMALL) as rows:
         for option, said in (('--lint', 'no line of rbacaudit lint'),
                              ('--diff', 'no line of changes'),
-                             ('--unasked', 'no line of principals'),
+                             ('--reach', 'no line of how far principals reach'), ('--unasked', 'no line of principals'),
                              ('--named', 'no line of holders by name'),
                              ('--namespaced', 'no line of API group and resource'),
                              ('--notices', None), ('--about', None)):
@@ -529,7 +529,7 @@ def helped():
     told_ = told(sys.executable, FILTER, '--help', env=dict(os.environ, COLUMNS='100'))
     options = dict(re.findall(r'^  (?:-h, )?--(\w+)(?: [A-Z]+)?  +(.*)$', told_, re.M))
     same('help: the options', [*options],
-         ['help', 'lint', 'diff', 'paths', 'unasked', 'named', 'namespaced', 'notices', 'about', 'title',
+         ['help', 'lint', 'diff', 'paths', 'reach', 'unasked', 'named', 'namespaced', 'notices', 'about', 'title',
           'output', 'plain', 'watched'])
     man = contents('man', 'rbacaudit-page.1')
     same('man: the options', re.findall(r'^\.TP\n.*\\-\\-(\w+)\\fR', man, re.M), [*options])
@@ -542,7 +542,7 @@ def helped():
     zsh = contents('completions', '_rbacaudit-page')
     same('zsh: the options', dict(re.findall(r"--(\w+)=?\}?'?\[(.*?)\]", zsh)), options)
     path = os.path.join(TOP, 'completions', 'rbacaudit-page.bash')
-    for line, wanted in (('rbacaudit-page --', '--lint --diff --paths --unasked --named --namespaced --notices '
+    for line, wanted in (('rbacaudit-page --', '--lint --diff --paths --reach --unasked --named --namespaced --notices '
                                     '--about --title --output --plain --watched --help'),
                          ('rbacaudit-page --lint x --t', '--title'),
                          ('rbacaudit-page --named -', ''), ('rbacaudit-page --paths -', ''),
@@ -616,4 +616,4 @@ if __name__ == '__main__':
                     path_limit, watch_list, parts_limit, memory, limits, output, drawn,
                     terminals, helped, installed, plugin_pages, plugin_names, plugin_types, plugin_notices,
                     plugin_places,
-                    plugin_files, plugin_progress, plugin_reach, plugin_refusals, plugin_stale, colours, in_browser))
+                    plugin_files, plugin_progress, plugin_reach, plugin_parts, plugin_refusals, plugin_stale, colours, in_browser))

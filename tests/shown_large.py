@@ -106,7 +106,7 @@ NAMESPACES = 421
 def company_rows(room):
     """The rows of matrix --once of 2,000 roles and 8,000 bindings in 421 namespaces, and which types have namespaces."""
     export, universe = os.path.join(room, 'company.json'), os.path.join(room, 'universe.json')
-    subprocess.run([sys.executable, os.path.join(TOP, 'bench', 'generate_export.py'), '2000', '8000', str(NAMESPACES), '1', export],
+    subprocess.run([sys.executable, os.path.join(TOP, 'bench', 'generate_export.py'), '2000', '8000', str(NAMESPACES), '7', export],
                    stdout=subprocess.DEVNULL, check=True, timeout=120)
     with open(universe, 'w', encoding='utf-8') as file:
         json.dump({'apiVersion': 'rbacaudit/v1', 'kind': 'Universe', 'names': ['']}, file)
@@ -137,7 +137,7 @@ def company(it, room):
         with open(given, 'w', encoding='utf-8') as file:
             file.write(''.join('%s\t%s\n' % pair for pair in sorted(types)))
         text = made(rows, '--namespaced', given)[1]
-    checked('company: there are rows of a company', 1_600_000 < len(rows) < 1_800_000, str(len(rows)))
+    checked('company: the rows of a company', len(rows) == 1_706_964, str(len(rows)))
     page = Shown(it, room, 'company', text)
     seconds = min(page.seconds, *(it.open(page.path) for _ in range(2)))
     checked('company: the size', len(text) <= 15_000_000, str(len(text)))

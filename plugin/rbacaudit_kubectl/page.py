@@ -34,6 +34,7 @@ PIECE = 50_000          # how many items of a list are written at once
 CHANGE = re.compile('[+-]\t(?:%s|r:%s(?:\t%s){5}\t-)' % (ROW_FORM, ROLE, FIELD))
 WHO, FINDING, TYPE = re.compile(PRINCIPAL), re.compile('%s(?:\t%s){4}' % (FIELD, FIELD)), re.compile('%s\t%s' % (FIELD, FIELD))
 NAMED, NOTICE = re.compile('(?:%s\t){3}%s\t%s' % (FIELD, PRINCIPAL, BINDING)), re.compile(r'[^\x00-\x08\x0a-\x1f\x7f]+')
+REACH = re.compile('%s\t(?:-|[1-9][0-9]{0,8})(?:\t[0-9]{1,9}){7}' % PRINCIPAL)
 ABOUT = re.compile('(context|server|version|time|only): (.+)')
 HERE = os.path.dirname(os.path.realpath(__file__))
 # The files of the page: in the sources, and where make install puts them.
@@ -57,6 +58,7 @@ OPTIONS = (
     ('lint', 'FILE', 'findings to show with the rows: lines of rbacaudit lint'),
     ('diff', 'FILE', 'changes to show with the rows: lines of rbacaudit diff'),
     ('paths', 'FILE', 'paths to show with the rows: lines of rbacaudit paths or who-can --indirect'),
+    ('reach', 'FILE', 'how far principals reach whose paths the page has in part (see the man page)'),
     ('unasked', 'FILE', 'principals whose paths the page lacks: u:NAME or g:NAME'),
     ('named', 'FILE', 'holders limited to object names: verb, API group, resource, who, binding'),
     ('namespaced', 'FILE', 'types that have namespaces: API group and resource'),
@@ -124,6 +126,7 @@ def beside(given: argparse.Namespace) -> tuple[dict[str, object], dict[str, obje
     small: dict[str, object] = {'namespaced': split(types), 'notices': lines(given.notices, NOTICE, 'text') or [],
                                 'unasked': lines(given.unasked, WHO, 'principals'), 'about': {} if given.about is None else about(given.about)}
     return small, {'findings': split(findings), 'changes': None if changes is None else coded(changes, 8),
+                   'reach': split(lines(given.reach, REACH, 'how far principals reach')),
                    'paths': answers.coded() if given.paths else None, 'named': None if named is None else coded(named, 5)}
 
 
