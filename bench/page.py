@@ -6,7 +6,6 @@ rows of 60,000 bindings.
 """
 
 import os
-import resource
 import subprocess
 import sys
 import tempfile
@@ -43,10 +42,9 @@ def measured(it, room, name, kind):
     """A line of the table."""
     place, words = kind(room)
     path = os.path.join(room, name + '.html')
-    began = time.monotonic()
     with open(os.path.join(room, 'rows'), 'rb') as rows:
-        subprocess.run([sys.executable, FILTER, *words, '--output', path], stdin=rows, check=True)
-    made = time.monotonic() - began
+        child = subprocess.Popen([sys.executable, FILTER, *words, '--output', path], stdin=rows)
+    used = os.wait4(child.pid, 0)[2]
     opened = min(it.open(path) for _ in range(3))
     count = it.do('ROWS.length')
     times = {}
@@ -57,8 +55,8 @@ def measured(it, room, name, kind):
         times[view] = time.monotonic() - began
     slowest = max(times, key=times.get)
     print('| %s | %s | %.1f MB | %.1f s, %d MB | %.2f s | %s: %.2f s | %d MB |' % (
-        name, format(count, ','), os.path.getsize(path) / 1e6, made, resource.getrusage(resource.RUSAGE_CHILDREN).ru_maxrss // 1000, opened,
-        slowest, times[slowest], it.memory() // 1_000_000))
+        name, format(count, ','), os.path.getsize(path) / 1e6, used.ru_utime + used.ru_stime, used.ru_maxrss // 1000, opened,
+        slowest, times[slowest], it.memory() // 1_000_000), flush=True)
 
 
 def main():
