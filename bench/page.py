@@ -18,6 +18,9 @@ import browser  # noqa: E402
 from shown_large import company_rows  # noqa: E402
 from written import FILTER  # noqa: E402
 
+# (by a process of its own, since a child's memory counts from its fork on)
+SPENT = ('import os, sys; used = os.wait4(os.spawnv(os.P_NOWAIT, sys.argv[1], sys.argv[1:]), 0)[2]; '
+         'print(used.ru_utime + used.ru_stime, used.ru_maxrss)')
 VIEWS = ('who', 'what', 'watch', 'rows', 'rows?q=secret', 'rows?watch=secrets', 'rows?watch=everything', 'find?q=a')
 
 
@@ -43,8 +46,8 @@ def measured(it, room, name, kind):
     place, words = kind(room)
     path = os.path.join(room, name + '.html')
     with open(os.path.join(room, 'rows'), 'rb') as rows:
-        child = subprocess.Popen([sys.executable, FILTER, *words, '--output', path], stdin=rows)
-    used = os.wait4(child.pid, 0)[2]
+        used = subprocess.run([sys.executable, '-c', SPENT, sys.executable, FILTER, *words, '--output', path], stdin=rows,
+                              stdout=subprocess.PIPE, check=True).stdout.split()
     opened = min(it.open(path) for _ in range(3))
     count = it.do('ROWS.length')
     times = {}
@@ -55,13 +58,13 @@ def measured(it, room, name, kind):
         times[view] = time.monotonic() - began
     slowest = max(times, key=times.get)
     print('| %s | %s | %.1f MB | %.1f s, %d MB | %.2f s | %s: %.2f s | %d MB |' % (
-        name, format(count, ','), os.path.getsize(path) / 1e6, used.ru_utime + used.ru_stime, used.ru_maxrss // 1000, opened,
+        name, format(count, ','), os.path.getsize(path) / 1e6, float(used[0]), int(used[1]) // 1000, opened,
         slowest, times[slowest], it.memory() // 1_000_000), flush=True)
 
 
 def main():
     print('| Page | Rows | Size | Made in | Opened in | Slowest view | Memory of the browser |')
-    for name, kind in (('bindings', bindings), ('company', company)):
+    for name, kind in (('company', company), ('bindings', bindings)):
         with browser.browser() as it, tempfile.TemporaryDirectory() as room:
             measured(it, room, name, kind)
 

@@ -79,12 +79,30 @@ class WatchView {
             bindingLinks(new Set([...rows, ...more].map(row => ROWS.place(row, 'binding'))))];
     }
 
-    // The first types of some rows, with their verbs.
+    // The first types of some rows, with their verbs: those of the whole cluster first, and then by
+    // namespace.
     uses(rows) {
-        const lines = linesOf(rows, row => this.scope.placeOf(row));
-        const uses = grouped(lines, line => line.group + '\t' + line.resource);
-        return [[...uses.values()].slice(0, 4).map(found => this.use(found)),
-            uses.size > 4 ? `and ${uses.size - 4} more types` : ''];
+        const uses = new Map();
+        const inPlaces = new Map();
+        for (const row of rows) {
+            const type = ROWS.typeOf(row);
+            const place = this.scope.placeOf(row);
+            if (!uses.has(type)) {
+                uses.set(type, {...ROWS.types[type], verbs: new Set(), isNamed: true, place});
+            }
+            const use = uses.get(type);
+            use.place = byNamespace(place, use.place) < 0 ? place : use.place;
+            use.isNamed &&= ROWS.word(row, 'name') !== '-';
+            inPlaces.set(place, inPlaces.get(place) || new Map());
+            const verbs = inPlaces.get(place);
+            verbs.set(type, (verbs.get(type) || new Set()).add(ROWS.place(row, 'verb')));
+        }
+        [...inPlaces].sort((a, b) => byNamespace(a[0], b[0])).forEach(([, verbs]) =>
+            verbs.forEach((found, type) => found.forEach(verb => uses.get(type).verbs.add(verb))));
+        const shown = [...uses.values()].sort((a, b) => byNamespace(a.place, b.place)
+            || byType(a, b));
+        return [shown.slice(0, 4).map(use => this.use(use)),
+            shown.length > 4 ? `and ${shown.length - 4} more types` : ''];
     }
 
     who(it) {
@@ -117,12 +135,10 @@ class WatchView {
                 bindings.length > 20 ? muted(`and ${bindings.length - 20} more`) : []]];
     }
 
-    // The verbs that somebody has on a type, by the lines about it.
-    use(lines) {
-        const verbs = [...new Set(lines.flatMap(line => [...line.verbs]))].map(textOf).map(lineOf);
-        const isNamed = lines.every(line => line.name !== '-');
-        return make('div', {}, muted(verbs.join(', '), ' '),
-            typeNodes(lines[0].group, lines[0].resource),
+    // The verbs that somebody has on a type.
+    use({group, resource, verbs, isNamed}) {
+        const texts = [...verbs].map(verb => lineOf(textOf(ROWS.words.verb[verb])));
+        return make('div', {}, muted(texts.join(', '), ' '), typeNodes(group, resource),
             isNamed ? muted(', some objects only') : '');
     }
 
