@@ -2,10 +2,18 @@
 
 const PAGE = JSON.parse(document.getElementById('data').textContent);
 
-// What the page holds. Rows are coded by tables of words: each field has the list of its words and
-// a column of places in it. A word
-// stays spelled as `matrix` prints it, so a copied or saved row is the matrix's own line; what is
-// shown is the text that it means.
+// Takes the parts of the page that are packed, if any are: JSON that is compressed, in base64.
+async function unpack() {
+    const bytes = bytesOf(PAGE.packed);
+    delete PAGE.packed;
+    const stream = new Blob([bytes]).stream().pipeThrough(new DecompressionStream('deflate'));
+    Object.assign(PAGE, await new Response(stream).json());
+}
+
+// What the page holds. The rows of the matrix are in sets (sets.js); other lines are coded by tables
+// of words: each field has the list of its words and a column of places in it. A word stays spelled as
+// `matrix` prints it, so a copied or saved row is the matrix's own line; what is shown is the text
+// that it means.
 
 const FIELDS = ['who', 'namespace', 'verb', 'group', 'resource', 'name', 'binding'];
 const HEADS = {change: 'Change', who: 'Who', namespace: 'Namespace', verb: 'Verb',
@@ -35,17 +43,8 @@ class Rows {
         return this.fields.map(field => this.word(row, field)).join('\t');
     }
 
-    // Whether this row is about the same request as the one before: with --every, one that another
-    // binding grants too.
-    repeats(row) {
-        return row > 0 && FIELDS.every(field => field === 'binding'
-            || this.columns[field][row] === this.columns[field][row - 1]);
-    }
-
-    // For each word of a field, whether it is wanted: 1 or 0.
     mask(field, wanted) {
-        const wants = wantedBy(wanted);
-        return Uint8Array.from(this.words[field], word => wants(word, field));
+        return maskOf(this.words[field], field, wanted);
     }
 
     // The rows that pass: for each field that is named, by its filter; with q, by any field; and by
@@ -67,15 +66,25 @@ class Rows {
     }
 }
 
+// For each word of a field, whether it is wanted: 1 or 0.
+function maskOf(words, field, wanted) {
+    const wants = wantedBy(wanted);
+    return Uint8Array.from(words, word => wants(word, field));
+}
+
 // A column's numbers, from their base64: one, two or four bytes each, by how many words there are.
 function numbersOf(text, words) {
-    const binary = atob(text);
+    const Numbers = words <= 256 ? Uint8Array : words <= 65536 ? Uint16Array : Uint32Array;
+    return new Numbers(bytesOf(text).buffer);
+}
+
+function bytesOf(base64) {
+    const binary = atob(base64);
     const bytes = new Uint8Array(binary.length);
     for (let at = 0; at < bytes.length; at++) {
         bytes[at] = binary.charCodeAt(at);
     }
-    const Numbers = words <= 256 ? Uint8Array : words <= 65536 ? Uint16Array : Uint32Array;
-    return new Numbers(bytes.buffer);
+    return bytes;
 }
 
 // The test of a filter: `=WORD` wants a field that is printed so, any other text one whose text has

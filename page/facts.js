@@ -24,113 +24,132 @@ class Watch {
         this.rows = rows;
         this.pairs = WATCHED.flatMap((watched, at) =>
             watched.pairs.map(([verbs, types, where]) => ({bit: 1 << at, verbs, types, where})));
+        this.places = new Set(this.pairs.map(({where}) => where).filter(where => where));
         this.verbs = rows.words.verb.map(word =>
             places(this.pairs, pair => pair.verbs.includes(textOf(word))));
-        this.targets = new Map();
-        this.stars = rows.words.verb.map(word => word === '*');
-        this.common = rows.words.verb.map(word => letterAt(word) < LETTERS.length);
-        this.commonVerbs = this.common.filter(is => is).length;
+        this.targets = rows.types.map(({group, resource}) =>
+            places(this.pairs, pair => pair.types.includes(typeOf(group, resource))));
+        this.isCommon = rows.words.verb.map(word => letterAt(word) < LETTERS.length);
+        this.commonVerbs = this.isCommon.filter(is => is).length;
+        this.entryBits = new Map();
+        this.setBits = new Map();
+        this.masks = new Map();
         this.countCommon();
     }
 
-    // Which pairs have the type of a row, as bits.
-    typePairs(row) {
-        const key = keyOfType(row, this.rows);
-        if (!this.targets.has(key)) {
-            const type = typeOf(this.rows.word(row, 'group'), this.rows.word(row, 'resource'));
-            this.targets.set(key, places(this.pairs, pair => pair.types.includes(type)));
-        }
-        return this.targets.get(key);
+    // What of the watch list an entry may belong to depends on this: the whole cluster, a namespace
+    // that the list names, or any other.
+    kindOf(namespace) {
+        const word = this.rows.words.namespace[namespace];
+        return namespace === EVERYWHERE.cluster || this.places.has(word) ? word : '';
     }
 
-    // Which categories a row belongs to in a namespace where it holds, or in the whole cluster, as
-    // bits.
-    of(row, namespace) {
-        const {who, verb} = this.rows.columns;
-        const held = this.verbs[verb[row]] & this.typePairs(row);
-        const isInCluster = namespace === EVERYWHERE.cluster;
-        const word = this.rows.words.namespace[namespace];
+    // For each entry the categories that it belongs to where it is held, as bits.
+    bitsIn(kind) {
+        if (!this.entryBits.has(kind)) {
+            const {verb} = this.rows.entries;
+            this.entryBits.set(kind, Int32Array.from(verb, (_, entry) => this.bitsOfPairs(entry,
+                this.verbs[verb[entry]] & this.targets[this.rows.type[entry]], kind)));
+        }
+        return this.entryBits.get(kind);
+    }
+
+    bitsOfPairs(entry, held, kind) {
         let found = 0;
         for (let at = 0; held >> at; at++) {
             const {bit, where} = this.pairs[at];
-            found |= held >> at & 1 && countsIn(where, isInCluster, word) ? bit : 0;
+            found |= held >> at & 1 && countsIn(where, kind === '-', kind) ? bit : 0;
         }
-        const isStar = this.stars[verb[row]] || this.rows.word(row, 'resource') === '*'
-            || this.rows.word(row, 'group') === '*';
-        return isStar || this.hasEverything(who[row], namespace) ? found | EVERYTHING : found;
+        const {group, resource} = this.rows.types[this.rows.type[entry]];
+        const isStar = resource === '*' || group === '*'
+            || this.rows.words.verb[this.rows.entries.verb[entry]] === '*';
+        return isStar ? found | EVERYTHING : found;
     }
 
-    scope(who, namespace) {
-        return who * this.rows.words.namespace.length + namespace;
+    // The same for all entries of a set that pass a mask: any, or what holds everywhere.
+    bitsOf(set, kind, mask) {
+        const key = `${mask === EVERYWHERE.mask} ${kind}`;
+        if (!this.setBits.has(key)) {
+            this.setBits.set(key, new Int32Array(this.rows.setCount).fill(-1));
+        }
+        const known = this.setBits.get(key);
+        if (known[set] < 0) {
+            const bits = this.bitsIn(kind);
+            known[set] = this.rows.entriesOf(set).reduce((sum, entry) =>
+                mask.passes[entry] ? sum | bits[entry] : sum, 0);
+        }
+        return known[set];
+    }
+
+    // The mask of what counts for a category if somebody has it in a namespace where it holds, or in
+    // the whole cluster.
+    maskOf(bit, who, namespace, isEverywhere) {
+        const base = isEverywhere ? EVERYWHERE.mask : EVERYWHERE.any;
+        if (bit === EVERYTHING && this.hasEverything(who, namespace)) {
+            return base;
+        }
+        const kind = this.kindOf(namespace);
+        const key = `${bit} ${isEverywhere} ${kind}`;
+        if (!this.masks.has(key)) {
+            const bits = this.bitsIn(kind);
+            this.masks.set(key, base.and(entry => bits[entry] & bit));
+        }
+        return this.masks.get(key);
     }
 
     // Counts, for hasEverything, requests for common verbs on types: in the whole cluster, everywhere,
     // and in each namespace those that don't hold everywhere.
     countCommon() {
-        this.cluster = {held: new Map(), types: new Set()};
-        this.everywhere = {held: new Map(), types: new Set()};
-        this.inside = {held: new Map(), types: new Map()};
-        const counted = [];
-        for (let row = 0; row < this.rows.length; row++) {
-            if (this.isCounted(row)) {
-                counted.push(row);
-            }
-        }
-        const {namespace} = this.rows.columns;
-        const isInside = row => namespace[row] !== EVERYWHERE.cluster;
-        counted.filter(row => !isInside(row)).forEach(row => this.countInCluster(row));
-        counted.filter(isInside).forEach(row => this.countInside(row));
+        const {rows} = this;
+        const {verb, name} = rows.entries;
+        this.common = new Mask(rows, entry => this.isCommon[verb[entry]]
+            && rows.words.name[name[entry]] === '-'
+            && !rows.types[rows.type[entry]].resource.startsWith('/'));
+        this.commonEverywhere = this.common.and(entry => EVERYWHERE.mask.passes[entry]);
+        const runs = EVERYWHERE.cluster < 0 ? [] : rows.runsIn(EVERYWHERE.cluster);
+        this.types = new Selection(rows, runs, () => this.common).types().size;
+        this.typesEverywhere = new Selection(rows, runs, () => this.commonEverywhere).types();
+        this.typesInside = new Int32Array(rows.words.namespace.length).fill(-1);
+        const count = mask => Uint32Array.from(rows.words.who, (_, who) =>
+            rows.countUnion(rows.parts(EVERYWHERE.runsOf(who), mask)));
+        this.held = count(this.common);
+        this.heldEverywhere = count(this.commonEverywhere);
     }
 
-    isCounted(row) {
-        return this.common[this.rows.columns.verb[row]] && this.rows.word(row, 'name') === '-'
-            && !this.rows.word(row, 'resource').startsWith('/') && !this.rows.repeats(row);
+    // How many types have rows in a namespace, but for those that have some everywhere.
+    countTypes(namespace) {
+        if (!(namespace >= 0)) {
+            return 0;
+        }
+        if (this.typesInside[namespace] < 0) {
+            const inside = new Selection(this.rows, this.rows.runsIn(namespace), () => this.common);
+            this.typesInside[namespace] = [...inside.types()]
+                .filter(type => !this.typesEverywhere.has(type)).length;
+        }
+        return this.typesInside[namespace];
     }
 
-    // A number for the verb and the type of a row.
-    use(row) {
-        return keyOfType(row, this.rows) * this.rows.words.verb.length
-            + this.rows.columns.verb[row];
-    }
-
-    countInCluster(row) {
-        const who = this.rows.columns.who[row];
-        for (const {held, types} of EVERYWHERE.holds(row) ? [this.cluster, this.everywhere]
-            : [this.cluster]) {
-            if (!held.has(who)) {
-                held.set(who, new Set());
-            }
-            held.get(who).add(this.use(row));
-            types.add(keyOfType(row, this.rows));
-        }
-    }
-
-    countInside(row) {
-        const who = this.rows.columns.who[row];
-        const namespace = this.rows.columns.namespace[row];
-        const type = keyOfType(row, this.rows);
-        if (!this.inside.types.has(namespace)) {
-            this.inside.types.set(namespace, new Set());
-        }
-        if (!this.everywhere.types.has(type)) {
-            this.inside.types.get(namespace).add(type);
-        }
-        if (!this.everywhere.held.get(who)?.has(this.use(row))) {
-            const scope = this.scope(who, namespace);
-            this.inside.held.set(scope, (this.inside.held.get(scope) || 0) + 1);
-        }
-    }
-
-    // Whether somebody has every common verb on every type that has rows there: in a namespace, or in
-    // the whole cluster. A page of one verb or one type doesn't tell.
-    hasEverything(who, namespace) {
+    // Whether somebody has every common verb on every type that has rows there: in a namespace, where
+    // they have these runs, or in the whole cluster. A page of one verb or one type doesn't tell.
+    hasEverything(who, namespace, own = this.rows.runsAt(who, namespace)) {
         const isInCluster = namespace === EVERYWHERE.cluster;
-        const {held, types} = isInCluster ? this.cluster : this.everywhere;
-        const all = types.size
-            + (isInCluster ? 0 : this.inside.types.get(namespace)?.size || 0);
-        const count = (held.get(who)?.size || 0)
-            + (isInCluster ? 0 : this.inside.held.get(this.scope(who, namespace)) || 0);
-        return this.commonVerbs > 1 && all > 1 && count === this.commonVerbs * all;
+        const all = isInCluster ? this.types
+            : this.typesEverywhere.size + this.countTypes(namespace);
+        const wanted = this.commonVerbs * all;
+        if (this.commonVerbs <= 1 || all <= 1) {
+            return false;
+        }
+        return isInCluster ? this.held[who] === wanted
+            : this.heldEverywhere[who] + this.countInside(who, own, wanted) === wanted;
+    }
+
+    // How many such requests somebody has in these runs of a namespace, but for those that they have
+    // everywhere; or nothing, where all together are too few.
+    countInside(who, own, wanted) {
+        const parts = this.rows.parts(own, this.common);
+        const most = parts.reduce((sum, {set}) => sum + this.common.count(set), 0);
+        return most + this.heldEverywhere[who] < wanted ? 0 : this.rows.countUnion(parts,
+            this.rows.parts(EVERYWHERE.runsOf(who), this.commonEverywhere));
     }
 }
 
@@ -138,34 +157,128 @@ function places(list, test) {
     return list.reduce((bits, item, at) => test(item) ? bits | 1 << at : bits, 0);
 }
 
-// A principal without rows yet. Namespaces and bindings are sets of places in their words.
-function principal(word) {
-    return {word, rows: [], permissions: 0, cluster: 0, watched: 0, isEverywhere: false,
-        namespaces: new Set(), bindings: new Set(), watchedAt: new Map(), named: [], onlyNamed: 0};
+// A principal without rows yet; who is its place among the words, if it has rows. `whole` has the
+// bits of the watch list that count in the whole cluster, or everywhere.
+function principal(word, who) {
+    return {word, who, permissions: 0, cluster: 0, watched: 0, whole: 0, isEverywhere: false,
+        namespaces: 0, bindings: 0, named: [], onlyNamed: 0};
 }
 
-// Each principal that has a row in a scope: its rows' places and counts.
-function principalsOf(scope) {
-    const found = ROWS.words.who.map(word => principal(word));
-    const {who, namespace, binding} = ROWS.columns;
-    for (const row of scope.rows) {
-        const it = found[who[row]];
-        const place = scope.placeOf(row);
-        it.rows.push(row);
-        it.bindings.add(binding[row]);
-        if (!ROWS.repeats(row) && !scope.again.has(row)) {
-            it.permissions++;
-            it.cluster += place === '-' ? 1 : 0;
-        }
-        it.isEverywhere ||= EVERYWHERE.follows(row);
-        if (namespace[row] !== EVERYWHERE.cluster) {
-            it.namespaces.add(namespace[row]);
-        }
-        const bits = scope.watched(row);
-        it.watched |= bits;
-        it.watchedAt.set(place, it.watchedAt.get(place) | bits);
+// Adds bits of the watch list to a principal that has them in a place.
+function addBits(it, place, bits, found) {
+    it.watched |= bits;
+    it.whole |= place === '-' ? bits : 0;
+    found?.set(place, found.get(place) | bits);
+}
+
+// The bits of what some runs give in a namespace, or in the whole cluster.
+function bitsOfRuns(runs, namespace, mask, test = () => true) {
+    let bits = 0;
+    for (const grant of ROWS.grantsOf(runs)) {
+        bits |= test(grant) ? WATCH.bitsOf(ROWS.set[grant], WATCH.kindOf(namespace), mask) : 0;
     }
-    return found.filter(it => it.rows.length);
+    return bits;
+}
+
+function countDifferent(numbers) {
+    return new Set(numbers).size;
+}
+
+// Each principal with its counts, of all rows.
+function principalsOfAll() {
+    return ROWS.words.who.map((word, who) => {
+        const it = principal(word, who);
+        const runs = ROWS.runsOf(who);
+        const inPlaces = grouped(runs, run => ROWS.namespace[run]);
+        for (const [namespace, own] of inPlaces) {
+            const count = ROWS.countUnion(ROWS.parts(own, EVERYWHERE.any));
+            it.permissions += count;
+            it.cluster += namespace === EVERYWHERE.cluster ? count : 0;
+            addBits(it, ROWS.words.namespace[namespace], bitsOfPlace(who, namespace, own));
+        }
+        it.namespaces = inPlaces.size - (inPlaces.has(EVERYWHERE.cluster) ? 1 : 0);
+        const grants = [...ROWS.grantsOf(runs)];
+        it.bindings = countDifferent(grants.map(grant => ROWS.binding[grant]));
+        it.isEverywhere = hasEverywhere(inPlaces.get(EVERYWHERE.cluster) || [])
+            || EVERYWHERE.isPlain && [...inPlaces].some(([namespace, own]) =>
+                namespace !== EVERYWHERE.cluster
+                && Array.from(ROWS.grantsOf(own)).some(grant => EVERYWHERE.isByCluster(grant)));
+        return it;
+    });
+}
+
+// What somebody's rows of a place count for in the watch list.
+function bitsOfPlace(who, namespace, own) {
+    return bitsOfRuns(own, namespace, EVERYWHERE.any)
+        | (WATCH.hasEverything(who, namespace, own) ? EVERYTHING : 0);
+}
+
+function hasEverywhere(runs) {
+    return Array.from(ROWS.grantsOf(runs)).some(grant =>
+        EVERYWHERE.mask.count(ROWS.set[grant]) > 0);
+}
+
+// Each principal that has a row in a namespace, or one that holds there too, with its counts there.
+function principalsIn(scope) {
+    const whole = grouped(EVERYWHERE.cluster < 0 ? [] : ROWS.runsIn(EVERYWHERE.cluster),
+        run => ROWS.who[run]);
+    const inside = grouped(scope.namespace < 0 ? [] : ROWS.runsIn(scope.namespace),
+        run => ROWS.who[run]);
+    const found = [];
+    ROWS.words.who.forEach((word, who) => {
+        const own = inside.get(who) || [];
+        const everywhere = hasEverywhere(whole.get(who) || []) ? whole.get(who) : [];
+        if (own.length || everywhere.length) {
+            found.push(principalIn(scope, principal(word, who), own, everywhere));
+        }
+    });
+    return found;
+}
+
+function principalIn(scope, it, own, everywhere) {
+    const parts = ROWS.parts(own, EVERYWHERE.any);
+    const wholeParts = ROWS.parts(everywhere, EVERYWHERE.mask);
+    const ofCluster = Array.from(ROWS.grantsOf(own)).filter(grant => EVERYWHERE.isByCluster(grant))
+        .map(grant => ({set: ROWS.set[grant], mask: EVERYWHERE.any}));
+    const more = ROWS.countUnion(wholeParts, parts);
+    it.permissions = ROWS.countUnion(parts) + more;
+    it.cluster = ROWS.countUnion(ofCluster) + more;
+    it.isEverywhere = ofCluster.length > 0 || everywhere.length > 0;
+    it.namespaces = own.length ? 1 : 0;
+    it.bindings = countDifferent([...ROWS.grantsOf(own), ...[...ROWS.grantsOf(everywhere)]
+        .filter(grant => EVERYWHERE.mask.count(ROWS.set[grant]))].map(grant => ROWS.binding[grant]));
+    addPlaces(scope, it, own, everywhere);
+    return it;
+}
+
+// Adds the bits of what somebody has in a namespace, by where it counts.
+function addPlaces(scope, it, own, everywhere, found) {
+    const {namespace, word} = scope;
+    const all = WATCH.hasEverything(it.who, namespace, own) ? EVERYTHING : 0;
+    const [byCluster, byOthers] = [true, false].map(is => {
+        const has = grant => EVERYWHERE.isByCluster(grant) === is;
+        return Array.from(ROWS.grantsOf(own)).some(has)
+            ? bitsOfRuns(own, namespace, EVERYWHERE.any, has) | all : 0;
+    });
+    addBits(it, word, byOthers, found);
+    addBits(it, '-', byCluster | (everywhere.length
+        ? bitsOfRuns(everywhere, namespace, EVERYWHERE.mask) | all : 0), found);
+}
+
+// The places in which somebody has something of the watch list in a scope, with its bits.
+function watchedAt(scope, it) {
+    const found = new Map();
+    if (it.who === undefined) {
+        return found;
+    }
+    if (scope.isAll) {
+        grouped(ROWS.runsOf(it.who), run => ROWS.namespace[run]).forEach((own, namespace) =>
+            addBits(it, ROWS.words.namespace[namespace], bitsOfPlace(it.who, namespace, own), found));
+        return found;
+    }
+    const whole = EVERYWHERE.runsOf(it.who);
+    addPlaces(scope, it, scope.ownOf(it.who), hasEverywhere(whole) ? whole : [], found);
+    return found;
 }
 
 // ---- holders by name
@@ -187,7 +300,8 @@ function withNamed(scope, principals, named) {
             named.word(at, field));
         const it = known.get(who) || principal(who);
         const place = placeOf(binding);
-        const held = it.watchedAt.get('-') | it.watchedAt.get(place);
+        it.at ||= watchedAt(scope, it);
+        const held = it.at.get('-') | it.at.get(place);
         const isInCluster = scope.isAll && place === '-';
         const bits = bitsOf(textOf(verb), typeOf(group, resource), isInCluster, place) & ~held;
         if (bits && isNamedIn(scope, place, group, resource)) {
@@ -248,10 +362,16 @@ function classOf(verb) {
     return ['read', 'read', 'read', 'write', 'write', 'write', 'write', 'other'][letterAt(verb)];
 }
 
-const ROWS = new Rows(PAGE.rows, FIELDS);
-const DIFF = PAGE.changes && new Rows(PAGE.changes, ['change', ...FIELDS]);
 const NAMED_FIELDS = ['verb', 'group', 'resource', 'who', 'binding'];
-const EVERYWHERE = new Everywhere(ROWS, PAGE.namespaced);
-const WATCH = new Watch(ROWS);
-const ALL = new Scope();
-const PRINCIPALS = ALL.principals;
+let ROWS, DIFF, NAMED, EVERYWHERE, WATCH, ALL, PRINCIPALS;
+
+// Takes what the page has, once it is read.
+function takeRows({rows, changes, named, namespaced}) {
+    ROWS = new SetRows(rows);
+    DIFF = changes && new Rows(changes, ['change', ...FIELDS]);
+    NAMED = named && new Rows(named, NAMED_FIELDS);
+    EVERYWHERE = new Everywhere(ROWS, namespaced);
+    WATCH = new Watch(ROWS);
+    ALL = new Scope();
+    PRINCIPALS = ALL.principals;
+}

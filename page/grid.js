@@ -1,6 +1,8 @@
 // What: principals against types, in a namespace or in the whole cluster; a cell has its verbs as
 // letters.
 
+const KEPT_PRINCIPALS = 200;   // whose rows are kept, once drawn
+
 class WhatView {
     constructor() {
         this.principals = [];
@@ -42,29 +44,34 @@ class WhatView {
         showCell(params.cell, namespace);
     }
 
-    // The rows of the namespace, by principal and type.
+    // What is shown of the rows of the namespace: principals and types.
     gather(namespace, params) {
-        const {columns} = ROWS;
         const wantsWho = ROWS.mask('who', params.who || '');
         const wanted = (params.type || '').toLowerCase();
-        const isShown = row => wantsWho[columns.who[row]]
-            && !(params.own && namespace !== '-' && EVERYWHERE.follows(row));
-        const types = new Map();
-        const rows = [];
-        for (const row of namespace === undefined ? [] : rowsIn(namespace)) {
-            if (isShown(row)) {
-                const key = keyOfType(row);
-                if (!types.has(key)) {
-                    types.set(key, typeAt(row, key, wanted));
-                }
-                if (types.get(key).isWanted) {
-                    rows.push(row);
-                }
+        const isWanted = ROWS.types.map(({group, resource}) =>
+            typeOf(group, resource).toLowerCase().includes(wanted));
+        const passes = entry => isWanted[ROWS.type[entry]];
+        const [all, everywhere] = [EVERYWHERE.any, EVERYWHERE.mask].map(mask => mask.and(passes));
+        const isOwn = grant => !params.own || namespace === '-' || !EVERYWHERE.isByCluster(grant);
+        this.selection = namespace === undefined ? new Selection(ROWS, [])
+            : selectIn(namespace, (run, grant, isEverywhere) => !wantsWho[ROWS.who[run]]
+                || !isOwn(grant) ? null : isEverywhere ? everywhere : all);
+        this.cells = new Map();
+        this.types = [...this.selection.types()].map(type => ROWS.types[type]).sort(byType);
+        this.runs = grouped(this.selection.runs, run => ROWS.who[run]);
+        this.principals = [...this.runs.keys()];
+    }
+
+    // The rows of a principal about a type.
+    rowsOf(who, type) {
+        if (!this.cells.has(who)) {
+            if (this.cells.size > KEPT_PRINCIPALS) {
+                this.cells.clear();
             }
+            const rows = this.runs.get(who).flatMap(run => this.selection.rowsOf(run));
+            this.cells.set(who, grouped(rows, row => ROWS.typeOf(row)));
         }
-        this.cells = grouped(rows, row => columns.who[row] + ' ' + keyOfType(row));
-        this.types = [...types.values()].filter(type => type.isWanted).sort(byType);
-        this.principals = [...new Set(rows.map(row => columns.who[row]))];
+        return this.cells.get(who).get(type.key);
     }
 
     typeHead(type) {
@@ -80,7 +87,7 @@ class WhatView {
     }
 
     cell(who, type) {
-        const rows = this.cells.get(who + ' ' + type.key);
+        const rows = this.rowsOf(who, type);
         if (!rows) {
             return make('td');
         }
@@ -96,12 +103,6 @@ class WhatView {
             'aria-label': [...verbs].map(textOf).map(lineOf).join(', ') + named + where},
             lettersOf(verbs, plain, own)));
     }
-}
-
-function typeAt(row, key, wanted) {
-    const group = ROWS.word(row, 'group');
-    const resource = ROWS.word(row, 'resource');
-    return {key, group, resource, isWanted: typeOf(group, resource).toLowerCase().includes(wanted)};
 }
 
 // The verbs' letters, each in its place. One that counts for some object names only is marked, and
@@ -137,8 +138,12 @@ function showCell(cell, namespace) {
     const filters = {who: '=' + who, namespace: '=' + namespace, group: '=' + group,
         resource: '=' + resource};
     const fields = ['verb', 'name', 'binding'];
-    const rows = rowsIn(namespace).filter(row => ROWS.word(row, 'who') === who
-        && ROWS.word(row, 'group') === group && ROWS.word(row, 'resource') === resource);
+    const place = ROWS.words.who.indexOf(who);
+    const type = ROWS.types.findIndex(it => it.group === group && it.resource === resource);
+    const [any, everywhere] = [EVERYWHERE.any, EVERYWHERE.mask].map(mask =>
+        mask.and(entry => ROWS.type[entry] === type));
+    const rows = [...selectIn(namespace, (run, _, isEverywhere) =>
+        ROWS.who[run] !== place ? null : isEverywhere ? everywhere : any)];
     const isEverywhere = row => namespace !== '-' && EVERYWHERE.follows(row);
     dialog.replaceChildren(
         make('h2', {id: 'cell-title'}, typeNodes(group, resource)),

@@ -1,40 +1,46 @@
 // The address after # says what is shown: a view and its parameters.
 
-const VIEWS = {
-    who: ['Who', () => new WhoView()],
-    what: ['What', () => new WhatView()],
-    watch: ['Watch list', () => new WatchView()],
-    rows: ['Rows', () => new RowsView(ROWS, 'Rows', 'rows',
-        'A filter keeps the rows whose field contains its text; with = before the text, the rows '
-        + 'whose field is exactly that: =- is the empty field, which as a namespace means the '
-        + 'whole cluster, and as an API group the core group. A filter of namespaces also shows '
-        + 'what holds everywhere: rows of the whole cluster whose type has namespaces. The binding '
-        + 'is the first that grants, unless the matrix was made with --every.')],
-};
-if (IS_ABOUT_WHO) {
-    VIEWS.paths = ['Paths', () => new PathsView()];
+// The views of a page: each with its title, how many lines it has, and how it is made.
+function viewsOf() {
+    const views = {
+        who: ['Who', PRINCIPALS.length, () => new WhoView()],
+        what: ['What', undefined, () => new WhatView()],
+        watch: ['Watch list', undefined, () => new WatchView()],
+        rows: ['Rows', ROWS.length, () => new RowsView(ROWS, 'Rows', 'rows', ABOUT_ROWS)],
+    };
+    const linesIn = answers => answers.reduce((count, {length}) => count + length, 0);
+    if (IS_ABOUT_WHO) {
+        views.paths = ['Paths', linesIn(PATHS), () => new PathsView()];
+    }
+    if (REQUESTS.length) {
+        views.requests = ['Who can indirectly', linesIn(REQUESTS), () => new RequestsView()];
+    }
+    if (PAGE.findings) {
+        views.findings = ['Findings', PAGE.findings.length, () => new FindingsView()];
+    }
+    if (DIFF) {
+        views.changes = ['Changes', DIFF.length,
+            () => new RowsView(DIFF, 'Changes', 'changes', ABOUT_CHANGES)];
+    }
+    return views;
 }
-if (REQUESTS.length) {
-    VIEWS.requests = ['Who can indirectly', () => new RequestsView()];
-}
-if (PAGE.findings) {
-    VIEWS.findings = ['Findings', () => new FindingsView()];
-}
-if (DIFF) {
-    VIEWS.changes = ['Changes', () => new RowsView(DIFF, 'Changes', 'changes',
-        'Gained is what is allowed now and wasn’t before; lost is what was allowed before and '
-        + 'isn’t now. The binding is the first one that grants it, or granted it.')];
-}
-const linesIn = answers => answers.reduce((count, {length}) => count + length, 0);
-const COUNTS = {who: PRINCIPALS.length, rows: ROWS.length, paths: linesIn(PATHS),
-    requests: linesIn(REQUESTS), findings: PAGE.findings?.length, changes: DIFF?.length};
+
+const ABOUT_ROWS = 'A filter keeps the rows whose field contains its text; with = before the text, the '
+    + 'rows whose field is exactly that: =- is the empty field, which as a namespace means the whole '
+    + 'cluster, and as an API group the core group. A filter of namespaces also shows what holds '
+    + 'everywhere: rows of the whole cluster whose type has namespaces. The binding is the first that '
+    + 'grants, unless the matrix was made with --every.';
+const ABOUT_CHANGES = 'Gained is what is allowed now and wasn’t before; lost is what was allowed before '
+    + 'and isn’t now. The binding is the first one that grants it, or granted it.';
+let VIEWS;
 const TITLE = document.title;
 const built = {};
 let current = '';
 
 function address() {
     const [view, query = ''] = location.hash.slice(1).split(/\?(.*)/s);
-    return [Object.hasOwn(VIEWS, view) || view === 'find' ? view : 'who',
+    const first = PATHS.length ? 'paths' : 'who';
+    return [Object.hasOwn(VIEWS, view) || view === 'find' ? view : first,
         Object.fromEntries(new URLSearchParams(query))];
 }
 
@@ -63,7 +69,7 @@ function render() {
     if (view !== 'what' || !params.cell) {
         document.getElementById('cell').close();
     }
-    built[view] ||= view === 'find' ? new FindView() : VIEWS[view][1]();
+    built[view] ||= view === 'find' ? new FindView() : VIEWS[view][2]();
     if (view !== current) {
         main.replaceChildren(built[view].element);
         main.className = built[view].element.classList.contains('text') ? 'scrolls' : '';
@@ -89,16 +95,18 @@ function placeOfTitle(ns) {
 }
 
 function begin() {
+    takeRows(PAGE);
+    takePaths(PAGE);
+    VIEWS = viewsOf();
     document.getElementById('facts').textContent = [counted(ROWS.length, 'row'),
         counted(PRINCIPALS.length, 'principal'),
         counted(ROWS.words.namespace.filter(word => word !== '-').length, 'namespace')
             + ' with rows of their own',
         counted(ROWS.words.binding.length, 'binding') + ' in these rows'].join(' · ');
     document.getElementById('views').append(...Object.entries(VIEWS)
-        .map(([view, [title]]) => make('li', {},
-        make('a', {href: link(view), 'data-view': view}, title, COUNTS[view] === undefined ? ''
-            : [' ', make('small', {},
-            figure(COUNTS[view]))]))));
+        .map(([view, [title, count]]) => make('li', {},
+            make('a', {href: link(view), 'data-view': view}, title, count === undefined ? ''
+                : [' ', make('small', {}, figure(count))]))));
     showAbout();
     showNotices();
     listen();
@@ -153,4 +161,19 @@ function listen() {
     });
 }
 
-begin();
+// A packed page takes a moment, in which its main part is busy.
+function openPage() {
+    const main = document.getElementById('main');
+    if (PAGE.packed === undefined) {
+        begin();
+    } else if (!window.DecompressionStream) {
+        main.append(make('p', {class: 'notice'}, 'This browser can’t unpack the page. Open it in a '
+            + 'newer one, or make it with rbacaudit-page --plain.'));
+    } else {
+        main.setAttribute('aria-busy', 'true');
+        document.getElementById('facts').textContent = 'Opening…';
+        unpack().then(begin).finally(() => main.removeAttribute('aria-busy'));
+    }
+}
+
+openPage();

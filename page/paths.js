@@ -30,7 +30,7 @@ function kindOfNode(word) {
 class Answer {
     constructor([file, who, first, end]) {
         Object.assign(this, {file, who, first, end, isOfRequest: who === null,
-            length: end - first});
+            length: end - first, told: TOLD.get(who)});
     }
 
     // The line of each node.
@@ -54,13 +54,16 @@ class Answer {
     }
 
     // How far the lines reach: how many nodes of each kind there are; in how many steps everything in
-    // the whole cluster; and the namespaces of everything else.
+    // the whole cluster; and the namespaces of everything else. Of an answer of which the page has a
+    // part, the numbers are told.
     get reach() {
         if (!this.reached) {
             this.reached = {counts: {}, everything: undefined, places: []};
             for (let row = this.first; row < this.end; row++) {
                 this.count(row, this.reached);
             }
+            this.reached.placeCount = this.reached.places.length;
+            Object.assign(this.reached, this.told);
         }
         return this.reached;
     }
@@ -76,18 +79,35 @@ class Answer {
         }
     }
 
-    // How many steps the farthest node takes. (Lines are in order of their steps.)
+    // How many nodes there are, and how many steps the farthest one takes. (Lines are in order of
+    // their steps.)
+    get size() {
+        return this.told ? this.told.lines : this.length;
+    }
+
     get most() {
-        return stepsOf(this.end - 1);
+        return this.told ? this.told.most : stepsOf(this.end - 1);
     }
 }
 
-const LINES = PAGE.paths && new Rows(PAGE.paths.lines, PATH_FIELDS);
-const GIVEN = PAGE.paths ? PAGE.paths.answers.map(it => new Answer(it)) : [];
-const PATHS = GIVEN.filter(it => !it.isOfRequest);
-const REQUESTS = GIVEN.filter(it => it.isOfRequest);
-// Whether principals were asked about; of files without lines, that isn't known.
-const IS_ABOUT_WHO = PAGE.paths !== null && (PATHS.length > 0 || !REQUESTS.length);
+// How far principals reach of whose paths the page has a part.
+const TOLD = new Map();
+let LINES, PATHS, REQUESTS, IS_ABOUT_WHO;
+
+// Takes the paths of the page, once they are read.
+function takePaths({paths, reach}) {
+    for (const [who, everything, ...numbers] of reach || []) {
+        const [placeCount, user, group, account, role, lines, most] = numbers.map(Number);
+        TOLD.set(who, {everything: everything === '-' ? undefined : Number(everything), placeCount,
+            counts: {user, group, 'service account': account, role}, lines, most});
+    }
+    LINES = paths && new Rows(paths.lines, PATH_FIELDS);
+    const given = paths ? paths.answers.map(it => new Answer(it)) : [];
+    PATHS = given.filter(it => !it.isOfRequest);
+    REQUESTS = given.filter(it => it.isOfRequest);
+    // (whether principals were asked about; of files without lines, that isn't known)
+    IS_ABOUT_WHO = paths !== null && (PATHS.length > 0 || !REQUESTS.length);
+}
 
 // ---- texts
 
@@ -121,9 +141,9 @@ function emptyNodes() {
 }
 
 // How far the lines of an answer reach, in words.
-function reachText({reach: {counts, everything, places}}) {
+function reachText({reach: {counts, everything, placeCount}}) {
     return [everything === undefined ? '' : 'everything in the whole cluster',
-        places.length ? 'everything in ' + counted(places.length, 'namespace') : '',
+        placeCount ? 'everything in ' + counted(placeCount, 'namespace') : '',
         ...Object.keys(KINDS).map(kind => counts[kind] ? counted(counts[kind], kind) : '')]
         .filter(part => part).join(', ');
 }
@@ -142,6 +162,26 @@ function whoTakeOverEverything() {
         .sort((a, b) => a.reach.everything - b.reach.everything);
 }
 
+// Who can take over how much, most first: everything in the whole cluster, in the fewest steps;
+// everything in the most namespaces; the most accounts; the most in all.
+function ranked() {
+    const accounts = ({reach}) => reach.counts['service account'] || 0;
+    const others = PATHS.filter(it => it.reach.everything === undefined).sort((a, b) =>
+        b.reach.placeCount - a.reach.placeCount || accounts(b) - accounts(a)
+        || b.size - a.size);
+    return [...whoTakeOverEverything(), ...others];
+}
+
+// What the list of principals lacks.
+function missedNodes() {
+    const {unasked} = PAGE;
+    const nobody = 'Whoever isn’t listed can take over nobody and nothing';
+    return unasked === null ? [nobody + ', or wasn’t asked about.']
+        : [nobody + ', but for what the groups they are in can. ', unasked.length ? make('b', {class: 'missed'},
+        counted(unasked.length, 'principal'), ' with a power weren’t asked about: ',
+        namesNodes(unasked.map(textOf), 5), '.') : 'Everybody with a power was asked about.'];
+}
+
 class PathsView {
     constructor() {
         this.shown = [];
@@ -157,8 +197,8 @@ class PathsView {
             make('h2', {}, 'What principals can take over'),
             filterInput('Filter principals', 'q', 'filter principals'), this.summary),
         make('p', {class: 'why'}, 'By rbacaudit paths: whom and what each principal can take over, '
-            + 'step by step. Whoever can take over everything in the whole cluster is listed first. '
-            + 'Whoever isn’t listed can take over nobody and nothing, or wasn’t asked about.'),
+            + 'step by step. Whoever can take over the most is listed first: everything in the whole '
+            + 'cluster, everything in a namespace, service accounts. ', missedNodes()),
         emptyNodes(), this.sheet.element);
         this.detail = new AnswerView('paths', ['Can take over', 'Last step', 'From']);
         this.element = make('div', {class: 'view'});
@@ -173,23 +213,30 @@ class PathsView {
         }
         fill(this.list, params);
         const wants = wantedBy(params.q || '');
-        const others = PATHS.filter(it => it.reach.everything === undefined)
-            .sort((a, b) => b.length - a.length);
-        this.shown = [...whoTakeOverEverything(), ...others].filter(({who}) => wants(who, 'who'));
+        this.ranked ||= ranked();
+        this.shown = this.ranked.filter(({who}) => wants(who, 'who'));
         this.summary.textContent = counted(this.shown.length, 'principal');
         this.sheet.show(this.shown.length);
     }
 
     row(it) {
-        const {everything, places, counts} = it.reach;
+        const {everything, places, placeCount, counts} = it.reach;
         const name = make('th', {scope: 'row', title: lineOf(textOf(it.who))},
             anchor('paths', {who: it.who}, principalNodes(it.who)));
         const where = everything !== undefined ? anchor('paths', {who: it.who, node: ALL_THERE_IS},
             make('b', {class: 'whole'}, 'whole cluster'), ` in ${counted(everything, 'step')}`)
-            : places.length ? namesNodes(places.map(textOf), 3) : muted('–');
-        const numbers = [...Object.keys(KINDS).map(kind => counts[kind]), it.length, it.most];
+            : placeCount ? this.placeLinks(it.who, places, placeCount) : muted('–');
+        const numbers = [...Object.keys(KINDS).map(kind => counts[kind]), it.size, it.most];
         return [name, cell('', where), ...numbers.map(number =>
             cell('number', number ? figure(number) : muted('–')))];
+    }
+
+    // The first of some namespaces, with a link to the path to everything there.
+    placeLinks(who, places_, count) {
+        const shown = places_.slice(0, 3);
+        return [...shown.flatMap((place, at) => [at ? ', ' : '', anchor('paths',
+            {who, node: '*\t' + place}, make('bdi', {}, nodesOf(textOf(place))))]),
+        count > shown.length ? muted(` and ${figure(count - shown.length)} more`) : ''];
     }
 }
 
@@ -273,9 +320,12 @@ class AnswerView {
             return length ? counted(steps, 'step') + '.' : 'No path of this page leads there.';
         }
         const most = `in at most ${counted(answer.most, 'step')}`;
+        const part = answer.told ? ` The page has ${figure(answer.length)} of `
+            + `${counted(answer.size, 'line')}, which lead to everything or are the first; `
+            + 'rbacaudit paths prints all.' : '';
         return isOfRequest ? 'May do what this file is about, or can take over somebody or something '
             + `that may, ${most}: ${reachText(answer)}.`
-            : `They can take over ${reachText(answer)}, ${most}.`;
+            : `They can take over ${reachText(answer)}, ${most}.${part}`;
     }
 
     linkNodes({who, node}) {

@@ -4,6 +4,9 @@
 const ROW_HEIGHT = 28;   // as in page.css
 const CELL_WIDTH = 74;   // as in page.css
 const BEYOND = 8;        // how many rows or columns are drawn past the edges
+const HIGHEST = 15e6;    // how high a table is at most: browsers cut what is higher
+const NEAR = 2000;       // scrolled by less, a table that is cut moves as far as any other
+const SOME = 4;          // and by as many rows where its bar is at an end
 const PRINTED = 2000;    // how many rows are printed at most
 const ACROSS = 15;       // how many types of a grid fit on a sheet of paper
 
@@ -29,7 +32,7 @@ class Sheet {
         this.more = make('p', {class: 'only-printed'});
         this.element = make('div', {class: 'sheet', tabindex: 0, role: 'region',
             'aria-label': label}, this.table, this.more);
-        this.element.addEventListener('scroll', () => this.redraw());
+        this.element.addEventListener('scroll', () => this.scrolled());
         sheets.add(this);
     }
 
@@ -37,14 +40,57 @@ class Sheet {
         this.count = count;
         this.drawn = '';
         this.table.setAttribute('aria-rowcount', count + 1);
-        this.element.scrollTop = 0;
+        this.element.scrollTop = this.barAt = this.firstRow = 0;
         this.redraw();
+    }
+
+    get isCut() {
+        return this.count * ROW_HEIGHT > HIGHEST;
+    }
+
+    // Finds the first row in view of a table that is cut: after a small step the row that is as far, and
+    // otherwise the one that is as far down as the bar.
+    scrolled() {
+        const step = this.element.scrollTop - this.barAt;
+        if (this.isCut && Math.abs(step) >= 1) {
+            const room = this.element.clientHeight - this.head.offsetHeight;
+            const last = this.count - Math.floor(room / ROW_HEIGHT);
+            const end = HIGHEST - room;
+            const wanted = Math.abs(step) < NEAR ? this.firstRow + this.rowsOfStep(step, end)
+                : Math.round(this.element.scrollTop / end * last);
+            this.firstRow = Math.max(0, Math.min(last, wanted));
+            // (at its ends the bar stands for the first row and the last ones alone)
+            this.element.scrollTop = this.firstRow === 0 ? 0 : this.firstRow === last ? end + 1
+                : Math.max(1, Math.min(end - 2, Math.round(this.firstRow / last * end)));
+            this.barAt = this.element.scrollTop;
+        }
+        this.redraw();
+    }
+
+    // How many rows a small step is: some also where the bar could go no further.
+    rowsOfStep(step, end) {
+        const rows = Math.sign(step) * Math.max(1, Math.abs(Math.trunc(step / ROW_HEIGHT)));
+        return this.element.scrollTop < 1 ? Math.min(rows, -SOME)
+            : this.element.scrollTop > end - 1 ? Math.max(rows, SOME) : rows;
+    }
+
+    // The first row to be drawn, the one after the last, and the heights before and after these.
+    inView(isPrinted) {
+        const {scrollTop, clientHeight} = this.element;
+        if (isPrinted) {
+            return [0, Math.min(this.count, PRINTED), 0, 0];
+        }
+        const [first, end] = this.isCut
+            ? [this.firstRow, Math.min(this.count, this.firstRow + Math.ceil(clientHeight / ROW_HEIGHT))]
+            : seen(scrollTop, clientHeight, ROW_HEIGHT, this.count);
+        const before = this.isCut ? this.barAt : first * ROW_HEIGHT;
+        const height = Math.min(HIGHEST, this.count * ROW_HEIGHT);
+        return [first, end, before, Math.max(0, height - before - (end - first) * ROW_HEIGHT)];
     }
 
     // Draws the rows in view, or, to print, all from the first one on.
     redraw(isPrinted = false) {
-        const [first, end] = isPrinted ? [0, Math.min(this.count, PRINTED)]
-            : seen(this.element.scrollTop, this.element.clientHeight, ROW_HEIGHT, this.count);
+        const [first, end, before, after] = this.inView(isPrinted);
         this.more.textContent = isPrinted ? this.leftOut(end) : '';
         const range = `${first} ${end} ${this.columnsInView(isPrinted)}`;
         if (range === this.drawn) {
@@ -58,7 +104,7 @@ class Sheet {
             rows.push(make('tr', {'aria-rowindex': at + 2, class: at % 2 ? 'odd' : false},
                 this.draw(at)));
         }
-        this.body.replaceChildren(spacer(first), ...rows, spacer(isPrinted ? 0 : this.count - end));
+        this.body.replaceChildren(spacer(before), ...rows, spacer(after));
         if (focused !== null) {
             const links = [...this.body.querySelectorAll('a')];
             links.find(it => it.getAttribute('href') === focused)?.focus({preventScroll: true});
@@ -76,9 +122,9 @@ class Sheet {
     }
 }
 
-function spacer(rows) {
+function spacer(height) {
     const row = make('tr', {class: 'spacer', 'aria-hidden': 'true'}, make('td'));
-    row.style.height = rows * ROW_HEIGHT + 'px';
+    row.style.height = height + 'px';
     return row;
 }
 

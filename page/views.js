@@ -75,7 +75,7 @@ const MOST_OPTIONS = 500;
 // holds which holds everywhere.
 function namespacesOf() {
     const words = ROWS.words.namespace.filter(word => word !== '-').toSorted(byText);
-    return EVERYWHERE.isPlain || !ALL.rows.some(row => EVERYWHERE.holds(row)) ? words
+    return EVERYWHERE.isPlain || !EVERYWHERE.isAny ? words
         : [...words, OTHER];
 }
 
@@ -133,9 +133,9 @@ const WHO_COLUMNS = [
         value: it => it.cluster},
     {id: 'namespaces', title: 'Namespaces', why: 'Namespaces in which they have any: all, where '
         + 'something of theirs holds everywhere',
-        value: it => it.isEverywhere ? Infinity : it.namespaces.size},
+        value: it => it.isEverywhere ? Infinity : it.namespaces},
     {id: 'bindings', title: 'Bindings', why: 'Bindings in their rows',
-        value: it => it.bindings.size},
+        value: it => it.bindings},
 ];
 
 // The column of a parameter, by whose name the order is turned round if a dash stands before it.
@@ -231,7 +231,7 @@ class PrincipalView {
         this.title.replaceChildren(...principalNodes(params.who), ...this.scope.isAll ? []
             : [muted(' in '), ...this.scope.titleNodes()]);
         this.watched.replaceChildren(...it ? badges(it, this.scope).flat() : []);
-        if (!it?.rows.length) {
+        if (it?.who === undefined) {
             this.summary.textContent = strangeText(params.ns) + 'This page has no row for them'
                 + (it ? '; the watch list has what they may do only by name.' : '.')
                 + (isKey(params.who) ? '' : ' A principal is written u:NAME or g:NAME.');
@@ -245,7 +245,7 @@ class PrincipalView {
         this.links.replaceChildren(anchor('rows', {who: '=' + it.word,
             namespace: this.scope.isAll ? '' : '=' + this.scope.word}, 'All rows'),
             ...takesOver(it.word));
-        it.lines ||= linesOf(it.rows, row => this.scope.placeOf(row));
+        it.lines ||= linesOf(this.scope.rowsOf(it), row => this.scope.placeOf(row));
         this.show(it.lines, params);
     }
 
@@ -253,11 +253,11 @@ class PrincipalView {
         const inside = figure(it.permissions - it.cluster);
         const parts = this.scope.isAll ? [figure(it.cluster) + ' in the whole cluster'
             + (it.isEverywhere ? ', and so in each namespace' : ''),
-        it.namespaces.size ? inside + ' in ' + counted(it.namespaces.size, 'namespace') : '']
+        it.namespaces ? inside + ' in ' + counted(it.namespaces, 'namespace') : '']
             : [figure(it.cluster) + ' that hold everywhere',
                 inside + ' of this namespace alone'];
         return counted(it.permissions, 'permission') + ': ' + [...parts, 'from '
-            + counted(it.bindings.size, 'binding')].filter(part => part).join(', ') + '.';
+            + counted(it.bindings, 'binding')].filter(part => part).join(', ') + '.';
     }
 
     show(lines, params) {
@@ -315,7 +315,7 @@ function linesOf(rows, placeOf) {
         const [namespace, group, resource, name] = key.split('\t');
         return {namespace, group, resource, name, target: key.slice(namespace.length),
             verbs: new Set(found.map(row => ROWS.word(row, 'verb'))),
-            bindings: new Set(found.map(row => ROWS.columns.binding[row]))};
+            bindings: new Set(found.map(row => ROWS.place(row, 'binding')))};
     });
     return lines.sort((a, b) => byNamespace(a.namespace, b.namespace) || byType(a, b));
 }
@@ -325,157 +325,6 @@ function typeNodes(group, resource) {
     return [make('bdi', {}, nodesOf(textOf(resource))),
         group === '-' ? [] : muted('.',
             make('bdi', {}, nodesOf(textOf(group))))];
-}
-
-// The bit of a category of the watch list, or none.
-function bitOf(id) {
-    const at = WATCHED.findIndex(it => it.id === id);
-    return at < 0 ? 0 : 1 << at;
-}
-
-// ---- Rows and Changes
-
-class RowsView {
-    constructor(rows, title, name, explanation) {
-        this.rows = rows;
-        this.name = name;
-        this.shown = [];
-        const heads = rows.fields.map(field =>
-            make('th', {scope: 'col'}, make('span', {}, HEADS[field]), this.filter(field)));
-        this.sheet = new Sheet(title, heads, at => this.line(this.shown[at]), 'rows ' + name);
-        this.summary = muted();
-        this.everywhere = everywhereSwitch();
-        this.watch = make('select', {'aria-label': 'Only rows of the watch list',
-            'data-param': 'watch',
-            change: event => change({watch: event.target.value})},
-            make('option', {value: ''}, 'watched or not'),
-            WATCHED.map(({id, title: it}) => make('option', {value: id}, it)));
-        this.element = make('div', {class: 'view'},
-            make('div', {class: 'tools'}, make('h2', {}, title),
-                filterInput('Filter by any field', 'q', 'any field'),
-                rows === ROWS ? [this.watch, this.everywhere] : [], this.summary,
-                make('button', {type: 'button', click: () => this.copy()}, 'Copy as lines'),
-                make('button', {type: 'button', click: () => this.save()}, 'Save as CSV'),
-                make('button', {type: 'button', click: () => go(name, {})}, 'Clear filters')),
-            make('p', {class: 'why'}, explanation), this.sheet.element);
-    }
-
-    filter(field) {
-        if (field !== 'change') {
-            return filterInput('Filter ' + HEADS[field], field, 'contains');
-        }
-        return make('select', {'aria-label': 'Filter changes', 'data-param': field,
-            change: event => change({change: event.target.value})},
-            ['', 'gained', 'lost'].map(value => make('option', {value}, value || 'both')));
-    }
-
-    update(params) {
-        fill(this.element, params);
-        const namespace = this.rows === ROWS ? insideOf(params.namespace) : null;
-        this.everywhere.hidden = !namespace;
-        this.everywhere.firstChild.checked = !params.own;
-        this.isJoined = namespace !== null && !params.own;
-        this.shown = this.matching(params, namespace);
-        const joined = this.isJoined
-            ? this.shown.filter(row => EVERYWHERE.holds(row)).length : 0;
-        const own = this.shown.length - joined;
-        this.summary.textContent = (own === this.rows.length ? counted(own, 'row')
-            : `${figure(own)} of ${counted(this.rows.length, 'row')}`)
-            + (joined ? ` and ${figure(joined)} of the whole cluster that hold there too` : '')
-            + (params.watch && !bitOf(params.watch)
-                ? `: the watch list has no ${lineOf(params.watch)}` : '')
-            + (namespace && params.namespace.startsWith('=') && isStrange(params.namespace.slice(1))
-                ? `: this page has no namespace ${placeText(params.namespace.slice(1))}` : '');
-        this.sheet.show(this.shown.length);
-    }
-
-    // The rows that pass the filters. With a filter of namespaces, those are joined that hold
-    // everywhere, or, with `own`, left out.
-    matching(params, inside) {
-        const bit = bitOf(params.watch);
-        const {namespace} = this.rows.columns;
-        const isWatched = !params.watch || this.rows !== ROWS ? () => true : row => WATCH.of(row,
-            this.isJoined && EVERYWHERE.holds(row) ? inside.place : namespace[row]) & bit;
-        if (!inside) {
-            return this.rows.matching(params, isWatched);
-        }
-        if (params.own) {
-            return this.rows.matching(params, row => !EVERYWHERE.follows(row) && isWatched(row));
-        }
-        if (this.joinedBy !== params.namespace) {
-            this.joinedBy = params.namespace;
-            this.there = new Uint8Array(this.rows.length);
-            EVERYWHERE.joined(row => inside.mask[namespace[row]]).rows
-                .forEach(row => { this.there[row] = 1; });
-        }
-        return this.rows.matching({...params, namespace: ''},
-            row => this.there[row] && isWatched(row));
-    }
-
-    line(row) {
-        return this.rows.fields.map(field => {
-            const word = this.rows.word(row, field);
-            const isEverywhere = field === 'namespace' && this.isJoined && EVERYWHERE.holds(row);
-            return make('td', {title: lineOf(field === 'change' ? CHANGES[word] : textOf(word))},
-                isEverywhere ? muted('everywhere') : fieldNodes(word, field));
-        });
-    }
-
-    text() {
-        return Array.from(this.shown, row => this.rows.line(row) + '\n').join('');
-    }
-
-    // The same for a spreadsheet: an empty field is an empty cell. (The mark at the beginning is for
-    // those that know UTF-8 by it alone.)
-    table() {
-        const {fields} = this.rows;
-        const lines = Array.from(this.shown, row => fields.map(field => {
-            const word = this.rows.word(row, field);
-            return csvCell(field === 'change' ? CHANGES[word] : word === '-' ? '' : word);
-        }));
-        return '\ufeff' + [fields.map(field => csvCell(HEADS[field])), ...lines]
-            .map(cells => cells.join(',') + '\r\n').join('');
-    }
-
-    copy() {
-        const wanted = navigator.clipboard?.writeText(this.text()) || Promise.reject();
-        wanted.then(() => say(`${counted(this.shown.length, 'row')} copied`),
-            () => say('This browser lets no page copy here: save the rows instead'));
-    }
-
-    save() {
-        const address = URL.createObjectURL(new Blob([this.table()], {type: 'text/csv'}));
-        make('a', {href: address, download: this.name + '.csv'}).click();
-        setTimeout(() => URL.revokeObjectURL(address), 60000);
-        say(`${counted(this.shown.length, 'row')} saved`);
-    }
-}
-
-// A cell of CSV. One that a spreadsheet would take for a formula begins with an apostrophe. A semicolon is
-// an escape of the field, since some take it for the end of a cell, in spite of quotes.
-function csvCell(text) {
-    return '"' + (/^[=+@\uff1d\uff0b\uff20\uff0d-]/.test(text) ? "'" : '')
-        + text.replaceAll('"', '""').replaceAll(';', '\\x3b') + '"';
-}
-
-// Shows or hides what holds everywhere, where a namespace is looked at.
-function everywhereSwitch() {
-    return make('label', {}, make('input', {type: 'checkbox',
-        change: event => change({own: event.target.checked ? '' : '1'})}),
-    ' also what holds everywhere');
-}
-
-// The namespaces that a filter wants, unless it wants the whole cluster or none: for each whether it
-// does, and the place of the one after =. Where that isn't on the page, only what holds everywhere
-// holds in it.
-function insideOf(filter) {
-    if (!filter) {
-        return null;
-    }
-    const mask = ROWS.mask('namespace', filter);
-    const isExact = filter.startsWith('=') && filter !== '=-';
-    return mask[EVERYWHERE.cluster] || !isExact && !mask.includes(1) ? null
-        : {mask, place: ROWS.words.namespace.indexOf(filter.slice(1))};
 }
 
 // ---- Findings

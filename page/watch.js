@@ -15,7 +15,7 @@ class WatchView {
         this.list.replaceChildren(make('ul', {class: 'tiles'},
             WATCHED.map((watched, at) => this.tile(watched, held[at], named[at])),
             IS_ABOUT_WHO ? comingTile(() => this.jump(COMING.id)) : []),
-        ...WATCHED.map((watched, at) => this.section(watched, held[at], named[at])),
+        ...WATCHED.map((watched, at) => this.section(watched, held[at], named[at], 1 << at)),
         IS_ABOUT_WHO ? comingSection() : '');
     }
 
@@ -32,7 +32,7 @@ class WatchView {
     }
 
     tile({id, title}, held, named) {
-        const whole = held.filter(isClusterWide).length;
+        const whole = held.filter(({isWhole}) => isWhole).length;
         const where = whole ? figure(whole) + (this.scope.isAll ? ' in the whole cluster'
             : ' everywhere') : !held.length ? named.length ? 'only by name' : 'nobody'
             : this.scope.isAll ? 'in namespaces alone' : 'in this namespace alone';
@@ -47,9 +47,9 @@ class WatchView {
             named.length ? muted(` · ${figure(named.length)} by name`) : []];
     }
 
-    section({id, title, why, names}, held, named) {
+    section({id, title, why, names}, held, named, bit) {
         const heads = ['Principal', 'Where', 'Verbs and types', 'Bindings'];
-        const parts = held.length ? plainTable(title, heads, held, it => this.line(it, id))
+        const parts = held.length ? plainTable(title, heads, held, it => this.line(it, id, bit))
             : make('p', {}, 'Nobody, by the rows of this page.');
         const byName = named.length ? [make('p', {class: 'why'}, 'Only by name: the rule has the '
             + 'names of the objects. rbacaudit rules WHO prints it.'),
@@ -64,15 +64,45 @@ class WatchView {
                     : '=' + this.scope.word}, 'All rows') : ''), parts, byName);
     }
 
-    line({it, rows, more, places: where}, id) {
-        const lines = linesOf(rows, row => this.scope.placeOf(row));
-        const uses = grouped(lines, line => line.group + '\t' + line.resource);
-        const shown = [...uses.values()].slice(0, 4).map(lines => this.use(lines));
-        return [this.who(it), where.includes('-')
-            ? [this.whole(), ...this.also(more)] : this.namespaces(where),
-        id === 'everything' ? `all common verbs on ${counted(uses.size, 'type')}`
-            : [shown, uses.size > 4 ? `and ${uses.size - 4} more types` : ''],
-        bindingLinks(new Set([...rows, ...more].map(row => ROWS.columns.binding[row])))];
+    // A holder, with the rows that tell and where they count. For one in the whole cluster, these are
+    // those in the whole cluster, and then what RoleBindings give too.
+    line({it, isWhole}, id, bit) {
+        const all = this.scope.rowsOf(it, bit);
+        const isOfWhole = row => this.scope.placeOf(row) === '-';
+        const rows = isWhole ? all.filter(isOfWhole) : all;
+        const more = isWhole ? all.filter(row => !isOfWhole(row)
+            && !EVERYWHERE.byCluster[ROWS.place(row, 'binding')]) : [];
+        const where = isWhole ? [] : [...new Set(all.map(row => this.scope.placeOf(row)))];
+        return [this.who(it), isWhole ? [this.whole(), ...this.also(more)] : this.namespaces(where),
+            id === 'everything' ? 'all common verbs on '
+                + counted(new Set(rows.map(row => ROWS.typeOf(row))).size, 'type') : this.uses(rows),
+            bindingLinks(new Set([...rows, ...more].map(row => ROWS.place(row, 'binding'))))];
+    }
+
+    // The first types of some rows, with their verbs: those of the whole cluster first, and then by
+    // namespace.
+    uses(rows) {
+        const uses = new Map();
+        const inPlaces = new Map();
+        for (const row of rows) {
+            const type = ROWS.typeOf(row);
+            const place = this.scope.placeOf(row);
+            if (!uses.has(type)) {
+                uses.set(type, {...ROWS.types[type], verbs: new Set(), isNamed: true, place});
+            }
+            const use = uses.get(type);
+            use.place = byNamespace(place, use.place) < 0 ? place : use.place;
+            use.isNamed &&= ROWS.word(row, 'name') !== '-';
+            inPlaces.set(place, inPlaces.get(place) || new Map());
+            const verbs = inPlaces.get(place);
+            verbs.set(type, (verbs.get(type) || new Set()).add(ROWS.place(row, 'verb')));
+        }
+        [...inPlaces].sort((a, b) => byNamespace(a[0], b[0])).forEach(([, verbs]) =>
+            verbs.forEach((found, type) => found.forEach(verb => uses.get(type).verbs.add(verb))));
+        const shown = [...uses.values()].sort((a, b) => byNamespace(a.place, b.place)
+            || byType(a, b));
+        return [shown.slice(0, 4).map(use => this.use(use)),
+            shown.length > 4 ? `and ${shown.length - 4} more types` : ''];
     }
 
     who(it) {
@@ -105,12 +135,10 @@ class WatchView {
                 bindings.length > 20 ? muted(`and ${bindings.length - 20} more`) : []]];
     }
 
-    // The verbs that somebody has on a type, by the lines about it.
-    use(lines) {
-        const verbs = [...new Set(lines.flatMap(line => [...line.verbs]))].map(textOf).map(lineOf);
-        const isNamed = lines.every(line => line.name !== '-');
-        return make('div', {}, muted(verbs.join(', '), ' '),
-            typeNodes(lines[0].group, lines[0].resource),
+    // The verbs that somebody has on a type.
+    use({group, resource, verbs, isNamed}) {
+        const texts = [...verbs].map(verb => lineOf(textOf(ROWS.words.verb[verb])));
+        return make('div', {}, muted(texts.join(', '), ' '), typeNodes(group, resource),
             isNamed ? muted(', some objects only') : '');
     }
 
@@ -140,33 +168,22 @@ class WatchView {
     }
 }
 
-// Who is in a category, with the rows that tell and where they count; those in the whole cluster come
-// first. Of these, `rows` are in the whole cluster, and `more` has what RoleBindings give them too.
+// Who is in a category; those in the whole cluster come first.
 function holdersOf(scope, at) {
-    const held = scope.principals.filter(it => it.watched >> at & 1).map(it => {
-        const places_ = [...it.watchedAt].filter(([, bits]) => bits >> at & 1)
-            .map(([place]) => place);
-        const rows = it.rows.filter(row => scope.watched(row) >> at & 1);
-        const isWhole = row => scope.placeOf(row) === '-';
-        const isMore = row => !isWhole(row) && !EVERYWHERE.byCluster[ROWS.columns.binding[row]];
-        return places_.includes('-')
-            ? {it, rows: rows.filter(isWhole), more: rows.filter(isMore), places: places_}
-            : {it, rows, more: [], places: places_};
-    });
-    return [...held.filter(isClusterWide), ...held.filter(holder => !isClusterWide(holder))];
+    return wholeFirst(scope.principals.filter(it => it.watched >> at & 1)
+        .map(it => ({it, isWhole: (it.whole >> at & 1) === 1})));
 }
 
 // Who is in a category only by name, with the lines that tell; those in the whole cluster come
 // first.
 function namedHolders(scope, at) {
-    const held = scope.principals.filter(it => it.onlyNamed >> at & 1).map(it => {
+    return wholeFirst(scope.principals.filter(it => it.onlyNamed >> at & 1).map(it => {
         const lines = it.named.filter(({bits}) => bits >> at & 1);
-        return {it, lines, places: lines.map(({place}) => place)};
-    });
-    return [...held.filter(isClusterWide), ...held.filter(holder => !isClusterWide(holder))];
+        const where = lines.map(({place}) => place);
+        return {it, lines, places: where, isWhole: where.includes('-')};
+    }));
 }
 
-function isClusterWide(holder) {
-    return holder.places.includes('-');
+function wholeFirst(holders) {
+    return [...holders.filter(it => it.isWhole), ...holders.filter(it => !it.isWhole)];
 }
-

@@ -119,7 +119,7 @@ class Browser:
         self.requests.clear()
         began = time.monotonic()
         self.ask('Page.navigate', url='file://' + path)
-        self.until('document.readyState === "complete"')
+        self.until('document.readyState === "complete" && !document.querySelector("[aria-busy]")')
         self.frame()
         return time.monotonic() - began
 
@@ -149,6 +149,21 @@ class Browser:
             self.ask('Input.dispatchKeyEvent', type=kind, key=key, code=key,
                      windowsVirtualKeyCode=code, **({'text': text} if text else {}))
         self.frame()
+
+    def memory(self):
+        """The most bytes of memory that a process of a page has had at once."""
+        found, waiting, parents = [0], [self.process.pid], {}
+        for name in filter(str.isdigit, os.listdir('/proc')):
+            with contextlib.suppress(OSError), open('/proc/%s/stat' % name, encoding='utf-8', errors='replace') as file:
+                parents.setdefault(int(file.read().rpartition(')')[2].split()[1]), []).append(int(name))
+        while waiting:
+            number = waiting.pop()
+            waiting += parents.get(number, [])
+            with contextlib.suppress(OSError), open('/proc/%d/cmdline' % number, encoding='utf-8', errors='replace') as file:
+                if '--type=renderer' in file.read():
+                    with open('/proc/%d/status' % number, encoding='utf-8') as status:
+                        found += [1024 * int(line.split()[1]) for line in status if line.startswith('VmHWM:')]
+        return max(found)
 
     def close(self):
         with contextlib.suppress(OSError, EOFError, TimeoutError, RuntimeError):

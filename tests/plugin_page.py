@@ -7,12 +7,22 @@ tests/rbacaudit_page.py runs this.
 import json
 import os
 import pty
+import re
+import select
+import signal
 import subprocess
+import sys
+import time
 
-from common import PROGRAM, V1
+from common import PROGRAM, TOP, V1
+from escalation import paths, powers
+from paths import read_files
 from plugin_questions import stale_roles
 from plugin_room import CAUTION, NO_SPACE, PLUGIN, RBAC, REFUSAL, in_each_shell, served
-from written import FILTER, Parts, lines_in
+from written import DEVS, FILTER, KIM, OPS, Parts, lines_in, rows_in, same
+
+sys.path.append(os.path.join(TOP, 'plugin'))
+from rbacaudit_kubectl.page_paths import reach_of, shortened  # noqa: E402
 
 TITLE = 'Who can do what'
 # Another binding for one who is an admin already, and a universe of one verb.
@@ -74,7 +84,7 @@ def on_page(text):
     data = parts.data()
     findings = ['\t'.join(finding) for finding in data['findings']]
     changes = data['changes'] and lines_in(data['changes'])
-    return (parts.texts['title', None], lines_in(data['rows']), findings, changes,
+    return (parts.texts['title', None], rows_in(data['rows']), findings, changes,
             lines_in(data['named']))
 
 
@@ -155,9 +165,7 @@ def plugin_names(it):
         it.write(text.replace('"resourceNames"', '"resource\\u004eames"'), 'prod', name)
     status, out, err = got = it.run('page', '--export', 'prod')
     it.checked('by name, spelled with an escape', on_page(out)[-1] == NAMED, repr(got)[-4000:])
-    os.remove(os.path.join(it.bin, 'rbacaudit'))
-    it.write(NO_HOLDERS % PROGRAM, it.at('bin'), 'rbacaudit')
-    os.chmod(os.path.join(it.bin, 'rbacaudit'), 0o755)
+    stand_in(it, NO_HOLDERS % PROGRAM)
     it.checked('no page if they can\'t be asked for', it.run('page', '--export', 'prod')[:2]
                == (2, ''), 'a page')
     plain['namespaced']['items'] = [item for item in plain['namespaced']['items']
@@ -300,17 +308,97 @@ def plugin_files(it):
     it.checked('--output writes the page', it.read('whole.html')
                == it.run('page', '--export', 'prod')[1], 'another page')
     for name, body, said in (
-            ('too many rows', ENDLESS, 'rbacaudit-page: there are more than 500000 rows'),
+            ('too many rows', ENDLESS, ' rows make more than 4000000 parts, too many for a page in a browser: '),
             ('a fault of the matrix', FAULTY, 'kubectl-rbacaudit: file 2 is my verbs.json\n'),
             ('a matrix that is cut off', CUT, 'rows may be missing')):
-        os.remove(os.path.join(it.bin, 'rbacaudit'))
-        it.write(NO_MATRIX % (body, PROGRAM), it.at('bin'), 'rbacaudit')
-        os.chmod(os.path.join(it.bin, 'rbacaudit'), 0o755)
+        stand_in(it, NO_MATRIX % (body, PROGRAM))
         status, out, err = got = it.run('page', '--export', 'prod', '--output', 'new.html',
                                         'my verbs.json')
         it.checked(name, (status, out) == (2, '') and said in err and 'write failed' not in err,
                    got)
         it.checked('%s: no file' % name, 'new.html' not in it.files('.'), it.files('.'))
+
+
+# The program, but a matrix gives some rows, and then some more, and hangs.
+SLOW = """for at in 1 2; do yes 'u:ann	-	get	-	pods	-	ClusterRoleBinding/b' | head -n 20000; sleep 1.2; done; echo $$ > '%s'; exec sleep 300"""
+# The program, but whoever is asked about can take over 100,000 others.
+MANY_PATHS = """#!/bin/sh
+[ "$1" != paths ] || exec awk -v "who=$3" 'BEGIN { for (at = 0; at < 100000; at++)
+    printf "1\\tu:%%d\\t-\\t%%s\\t-\\timpersonate\\tClusterRoleBinding/b\\tClusterRole/r\\tClusterRole/r\\t1\\t1\\n", at, who }'
+exec '%s' "$@"
+"""
+
+
+def stand_in(it, text):
+    """Puts another program in the place of rbacaudit."""
+    os.remove(os.path.join(it.bin, 'rbacaudit'))
+    it.write(text, it.at('bin'), 'rbacaudit')
+    os.chmod(os.path.join(it.bin, 'rbacaudit'), 0o755)
+
+
+@in_each_shell
+def plugin_progress(it):
+    """While rows are read a line says how many there are, and for how long; a page that is interrupted leaves nothing behind."""
+    exported(it)
+    before = it.files('.')
+    for name, number in (('Ctrl-C', signal.SIGINT), ('TERM', signal.SIGTERM)):
+        place = it.at('hangs-' + name)
+        stand_in(it, NO_MATRIX % (SLOW % place, PROGRAM))
+        ours, terminal = pty.openpty()
+        child = subprocess.Popen([it.shell, PLUGIN, 'page', '--export', 'prod', '--output', 'new.html'], cwd=it.work, env=it.environment(),
+                                 stdin=subprocess.DEVNULL, stdout=subprocess.PIPE, stderr=terminal)
+        os.close(terminal)
+        said, until = '', time.monotonic() + 60
+        while not (it.read(place).strip() and '40,000' in said) and time.monotonic() < until:
+            if select.select([ours], [], [], 0.1)[0]:
+                said += os.read(ours, 10000).decode()
+        lines = [text for text in said.split('\r') if 'rows read' in text]
+        it.checked('%s: rows and seconds' % name, [re.sub('[12] s', 'N s', text) for text in lines] == [
+            'rbacaudit-page: 20,000 rows read', 'rbacaudit-page: 40,000 rows read, N s'], lines)
+        began = time.monotonic()
+        child.send_signal(number)
+        status, out = child.wait(60), child.stdout.read()
+        child.stdout.close()
+        os.close(ours)
+        it.checked('%s: ends' % name, (status % 256, out, time.monotonic() - began < 10) == (128 + number, b'', True), (status, out))
+        hung = int(it.read(place))
+        it.checked('%s: no matrix is left' % name, not os.path.exists('/proc/%d' % hung), hung)
+        it.checked('%s: no file is left' % name, it.files('.') == before, it.files('.'))
+
+
+@in_each_shell
+def plugin_reach(it):
+    """The page has the paths of everybody with a power, by the definition of tests/escalation.py; and says about whom there was no room."""
+    os.symlink(FILTER, os.path.join(it.bin, 'rbacaudit-page'))
+    it.run('export', 'prod')
+    given = read_files([os.path.join(it.work, 'prod', name + '.json') for name in ('cluster', 'namespaced', 'accounts')])
+    wanted = {who: [*paths(given, who)] for who in {line.split('\t')[1] for line in powers(given)}}
+    it.checked('there are principals with a power', len(wanted) > 2, wanted)
+    status, out, err = got = it.run('page', '--export', 'prod')
+    data = Parts(out).data()
+    lines = lines_in(data['paths']['lines'])
+    it.checked('the paths of each', {who: lines[first:end] for _, who, first, end in data['paths']['answers']}
+               == {who: found for who, found in wanted.items() if found}, got)
+    it.checked('everybody was asked about', (status, err, data['unasked']) == (0, '', []), got)
+    stand_in(it, MANY_PATHS % PROGRAM)
+    status, out, err = got = it.run('page', '--export', 'prod')
+    data = Parts(out).data()
+    answers = {who: end - first for _, who, first, end in data['paths']['answers']}
+    it.checked('who has the most powers in the whole cluster is asked about first, and there is room for a part of the others',
+               (status, [*answers][0], answers) == (0, 'u:dana@example.com', {**dict.fromkeys(wanted, 3), 'u:dana@example.com': 100000}), answers)
+    it.checked('how far the others reach', sorted(data['reach']) == sorted(
+        [who, '-', '0', '100000', '0', '0', '0', '100000', '1'] for who in answers if answers[who] == 3) and data['unasked'] == [], data['reach'])
+
+
+def plugin_parts():
+    """Of an answer that isn't whole, the lines that lead to everything stay, and its numbers are told."""
+    for name, lines, left, reach in (
+            ('everything in the whole cluster', KIM, KIM[:2], 'u:kim 2 0 1 0 1 0 3 2'),
+            ('everything in a namespace', DEVS, DEVS[:1], 'g:devs - 1 0 0 2 0 3 2'),
+            ('no everything', OPS, OPS, 'g:ops - 0 0 0 1 1 2 2')):
+        text = ''.join(line + '\n' for line in lines)
+        same('parts: %s: what stays' % name, shortened(text), ''.join(line + '\n' for line in left))
+        same('parts: %s: how far' % name, reach_of(lines[0].split('\t')[3], text), reach.replace(' ', '\t'))
 
 
 @in_each_shell

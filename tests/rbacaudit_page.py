@@ -6,7 +6,9 @@ a renderer, stands in the last line but one. The last line is `N passed, M faile
 """
 
 import base64
+import contextlib
 import hashlib
+import io
 import itertools
 import json
 import os
@@ -20,11 +22,14 @@ import tempfile
 import time
 
 from common import TOP, checked, skipped, tested
-from plugin_page import (plugin_files, plugin_names, plugin_notices, plugin_pages, plugin_places, plugin_refusals,
-                         plugin_stale, plugin_types)
+from plugin_page import (plugin_files, plugin_names, plugin_notices, plugin_pages, plugin_parts, plugin_places, plugin_progress, plugin_reach,
+                         plugin_refusals, plugin_stale, plugin_types)
 from shown import in_browser
+sys.path.append(os.path.join(TOP, 'plugin'))
+from rbacaudit_kubectl.page_rows import MOST_PARTS, MOST_TEXT, Rows  # noqa: E402
+from rbacaudit_kubectl.terminal import Progress, Refused  # noqa: E402
 from written import (CHANGES, DEVS, FILTER, FINDINGS, KIM, NAMED, OPS, READERS, SMALL, Parts, contents,
-                     file_of, lines_in, made, named_strangers, path_strangers, rows_of, same, steps,
+                     file_of, lines_in, made, named_strangers, path_strangers, rows_in, rows_of, same, steps,
                      strangers, worked_paths)
 
 
@@ -42,7 +47,7 @@ def written():
         status, text, err = made(rows)
         same('%s: status' % name, (status, err), (0, ''))
         data = Parts(text).data()
-        checked('%s: the page has them all' % name, lines_in(data['rows']) == rows
+        checked('%s: the page has them all' % name, rows_in(data['rows']) == rows
                 and data['rows']['count'] == len(rows))
         same('%s: nothing else' % name, [data[part] for part in ('whole', 'findings', 'changes',
                                                                  'named')],
@@ -127,7 +132,7 @@ def no_markup():
                                               '</title><script>alert(5)</script>\u202e')[1]
     same('the elements are the same', Parts(hostile).elements, Parts(plain).elements)
     parts = Parts(hostile)
-    same('all names are there', sorted(lines_in(parts.data()['rows'])), sorted(strangers()))
+    same('all names are there', sorted(rows_in(parts.data()['rows'])), sorted(strangers()))
     same('those of holders by name too', lines_in(parts.data()['named']), [*named_strangers()])
     same('those of paths too', lines_in(parts.data()['paths']['lines']),
          [*path_strangers(), *READERS])
@@ -188,6 +193,7 @@ def refusals():
     with file_of(SMALL) as rows:
         for option, said in (('--lint', 'no line of rbacaudit lint'),
                              ('--diff', 'no line of changes'),
+                             ('--reach', 'no line of how far principals reach'), ('--unasked', 'no line of principals'),
                              ('--named', 'no line of holders by name'),
                              ('--namespaced', 'no line of API group and resource'),
                              ('--notices', None), ('--about', None)):
@@ -376,18 +382,61 @@ def watch_list():
 ROW = 'u:ann\t-\tget\t-\tpods\t-\tClusterRoleBinding/b'
 
 
-def limits():
-    """The most rows, and one more; a full disk; a filter without its files."""
-    same('500,000 rows', made([ROW] * 500000)[::2], (0, ''))
+def read(rows, *most, last='end'):
+    """What is said of rows that are read with these limits: nothing, or why they are refused."""
+    with contextlib.redirect_stderr(io.StringIO()):
+        try:
+            Rows(*most).read([line.encode() + b'\n' for line in [*rows, last]], Progress())
+        except Refused as fault:
+            return str(fault)
+    return ''
+
+
+def parts_limit():
+    """The most parts, counted by hand: an entry of a set and a grant are one each, a run and a word two."""
+    # (two runs of one grant, with the same set of two entries; two principals, a namespace, two requests and a binding)
+    rows = ['u:%s\t-\tget\t-\t%s\t-\tClusterRoleBinding/b' % pair for pair in itertools.product('ab', ('nodes', 'pods'))]
+    parts = 2 + 2 * 1 + 2 * (2 + 2 + 1 + 2 + 1)
+    same('the most parts', read(rows, parts), '')
+    same('one part more', read(rows, parts - 1), 'the first 4 rows make more than %d parts, too many for a page in a browser: '
+         'make the page of one namespace, as kubectl rbacaudit page -n NS does, or a Universe document with fewer principals, '
+         'namespaces or resources' % (parts - 1))
+    size = len('u:au:b-' + 'get\t-\tnodes\t-' + 'get\t-\tpods\t-' + 'ClusterRoleBinding/b\n')
+    same('the most bytes of names', read(rows, 1000, size), '')
+    checked('one byte more', read(rows, 1000, size - 1).startswith(
+        'the first 4 rows make more than %d bytes of names, too many for a page in a browser: ' % (size - 1)))
     repeated, named = ROW.replace('-', 'dev', 1), ROW[::-1].replace('-', 'a', 1)[::-1]
     for name, row, said in (
-            ('what holds in the whole cluster', repeated, 'matrix --once lists once'),
-            ('object names', named, '"names": [""]'),
+            ('what holds in the whole cluster', repeated, 'matrix --once lists once what holds in the whole cluster'),
+            ('object names', named, 'leave out the names of objects, by "names": [""] in a Universe document'),
             ('nothing of these', ROW, 'kubectl rbacaudit page -n NS')):
-        status, out, err = got = made([row] + [ROW] * 500000)
-        checked('one more is refused, with what to do about %s' % name, (status, out) == (2, '')
-                and 'more than 500000 rows, too many for a page: ' in err and said in err
-                and err.count('\n') == 1, repr(got))
+        checked('one more is refused, with what to do about %s' % name, said in read([row, ROW], 1), read([row, ROW], 1))
+
+
+def memory():
+    """Reading takes at most 400 bytes for each entry of a set and each principal with a namespace, and keeps no row."""
+    for name, rows, parts in (
+            ('principals of a row each', ('u:user-%06d@example.com\tns%d\tget\t-\tpods\t-\tRoleBinding/ns%d/b%06d' % (at, at % 9, at % 9, at)
+                                          for at in range(30000)), 30000),
+            ('names of one', ('u:ann\tns\tget\t-\tpods\tpod-%06d\tRoleBinding/ns/b' % at for at in range(30000)), 30001),
+            ('sets of their own', ('u:user-%03d\tns\tget\t-\tkind%03d\t-\tRoleBinding/ns/b' % (at // 100, at // 100 + at % 100)
+                                   for at in range(30000)), 30300),
+            ('the same set', ('u:user-%03d\tns\tget\t-\tkind%03d\t-\tRoleBinding/ns/b' % (at // 100, at % 100) for at in range(200000)),
+             2100)):
+        script = ('import sys, tracemalloc; sys.path[:0] = sys.argv[1:]; from rbacaudit_kubectl.page import pieces_of; '
+                  'from rbacaudit_kubectl.page_rows import Rows; from rbacaudit_kubectl.terminal import Progress; tracemalloc.start(); '
+                  'rows = Rows(); rows.read(sys.stdin.buffer, Progress()); sum(map(len, pieces_of(rows.coded()))); '
+                  'print(tracemalloc.get_traced_memory()[1])')
+        most = int(subprocess.run([sys.executable, '-c', script, os.path.dirname(FILTER)], input='\n'.join([*rows, 'end']).encode(),
+                                  stdout=subprocess.PIPE, check=True, timeout=60).stdout)
+        # (beside what a block of lines takes, however few things they say)
+        checked('memory for %s' % name, most <= 400 * parts + 5_000_000, '%d bytes' % most)
+        print('%s: %d bytes for each of %d' % (name, most // parts, parts))
+
+
+def limits():
+    """Many rows of one request; a full disk; a filter without its files."""
+    same('500,000 rows', made([ROW] * 500000)[::2], (0, ''))
     endless = subprocess.Popen(['yes', ROW], stdout=subprocess.PIPE)
     ended = subprocess.run([sys.executable, FILTER], stdin=endless.stdout, stdout=subprocess.PIPE,
                            stderr=subprocess.PIPE, timeout=60)
@@ -480,19 +529,21 @@ def helped():
     told_ = told(sys.executable, FILTER, '--help', env=dict(os.environ, COLUMNS='100'))
     options = dict(re.findall(r'^  (?:-h, )?--(\w+)(?: [A-Z]+)?  +(.*)$', told_, re.M))
     same('help: the options', [*options],
-         ['help', 'lint', 'diff', 'paths', 'named', 'namespaced', 'notices', 'about', 'title',
-          'output', 'watched'])
+         ['help', 'lint', 'diff', 'paths', 'reach', 'unasked', 'named', 'namespaced', 'notices', 'about', 'title',
+          'output', 'plain', 'watched'])
     man = contents('man', 'rbacaudit-page.1')
     same('man: the options', re.findall(r'^\.TP\n.*\\-\\-(\w+)\\fR', man, re.M), [*options])
     checked('man: the default of --title', 'Default: Who can do what.' in man)
-    checked('man: the most rows', re.search(r'More than ([\d,]+) rows', man)[1] == '500,000')
+    same('man: the most parts, bytes of names, and lines of paths',
+         [int(text.replace(',', '')) for text in re.findall(r'[Mm]ore than ([\d,]+) parts|have ([\d,]+) bytes|More than ([\d,]+) lines', man)
+          for text in text if text], [MOST_PARTS, MOST_TEXT, 500000])
     fish = contents('completions', 'rbacaudit-page.fish')
     same('fish: the options', dict(re.findall(r"-l (\w+) .*?-d '(.*)'$", fish, re.M)), options)
     zsh = contents('completions', '_rbacaudit-page')
     same('zsh: the options', dict(re.findall(r"--(\w+)=?\}?'?\[(.*?)\]", zsh)), options)
     path = os.path.join(TOP, 'completions', 'rbacaudit-page.bash')
-    for line, wanted in (('rbacaudit-page --', '--lint --diff --paths --named --namespaced --notices '
-                                    '--about --title --output --watched --help'),
+    for line, wanted in (('rbacaudit-page --', '--lint --diff --paths --reach --unasked --named --namespaced --notices '
+                                    '--about --title --output --plain --watched --help'),
                          ('rbacaudit-page --lint x --t', '--title'),
                          ('rbacaudit-page --named -', ''), ('rbacaudit-page --paths -', ''),
                          ('rbacaudit-page --title -', '')):
@@ -562,7 +613,7 @@ def colours():
 
 if __name__ == '__main__':
     sys.exit(tested(written, written_paths, no_markup, policy, refusals, path_refusals, broken_answers,
-                    path_limit, watch_list, limits, output, drawn,
+                    path_limit, watch_list, parts_limit, memory, limits, output, drawn,
                     terminals, helped, installed, plugin_pages, plugin_names, plugin_types, plugin_notices,
                     plugin_places,
-                    plugin_files, plugin_refusals, plugin_stale, colours, in_browser))
+                    plugin_files, plugin_progress, plugin_reach, plugin_parts, plugin_refusals, plugin_stale, colours, in_browser))

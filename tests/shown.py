@@ -10,6 +10,7 @@ import tempfile
 import browser
 from common import PROGRAM, TOP, checked, skipped
 from opened import COUNTS, LABELS, Shown
+from shown_large import LARGE
 from shown_names import common_verbs, many_namespaces, names, notices, spreadsheet, strange_places, zoomed
 from shown_paths import PATHS
 from shown_scopes import joined, wide
@@ -540,7 +541,7 @@ def in_browser():
             it.ask('Browser.setDownloadBehavior', behavior='allow', downloadPath=room)
             for part in (small_page, watched, by_name, watch_heads, stars, joined, notices, names,
                          common_verbs, spreadsheet, strange_places, many_namespaces, zoomed, empty, widths,
-                         hostile_page, cluster_page, themes, large, wide, *PATHS):
+                         hostile_page, cluster_page, themes, large, wide, *PATHS, *LARGE):
                 try:
                     part(it, room)
                 except faults as fault:

@@ -165,6 +165,44 @@ def shown_paths(it, room):
     page.is_quiet()
 
 
+def ranked(it, room):
+    """A page with paths begins with who can take over how much, most first. Of answers that it has in part the numbers are told; and whom it
+    lacks."""
+    everything = '1 * * u:all - bind ClusterRoleBinding/all ClusterRole/all ClusterRole/all 1 1'.replace(' ', '\t')
+    roles = [line.replace('g:ops', 'g:few') for line in OPS]
+    with file_of([*OPS, *roles, *DEVS[:1], *KIM, everything], 'paths') as paths, file_of(
+            ['g:devs\t-\t12\t3\t1\t40\t5\t61\t4', 'g:few\t-\t0\t0\t0\t2000\t0\t2000\t3'], 'reach') as reach, file_of(
+            ['u:x', 'g:y\\x09'], 'unasked') as unasked:
+        text = made(SMALL, '--paths', paths, '--reach', reach, '--unasked', unasked)[1]
+        same('ranked: everybody was asked', Shown(it, room, 'all', made(SMALL, '--paths', paths, '--unasked', os.devnull)[1]).text('main .why'),
+             RANKED + 'Everybody with a power was asked about.')
+    page = Shown(it, room, 'ranked', text)
+    same('ranked: the first view', (page.text('main h2'), page.it.do('document.title'), page.texts('nav [aria-current=page]')),
+         ('What principals can take over', 'Paths · Who can do what', ['Paths 9']))
+    same('ranked: most first', page.cells(), [
+        ['user all', 'whole cluster in 1 step', '–', '–', '–', '–', '1', '1'],
+        ['user kim', 'whole cluster in 2 steps', '1', '–', '1', '–', '3', '2'],
+        ['group devs', 'dev and 11 more', '3', '1', '40', '5', '61', '4'],
+        ['group few', '–', '–', '–', '2,000', '–', '2,000', '3'],
+        ['group ops', '–', '–', '–', '1', '1', '2', '2']])
+    same('ranked: whom it lacks', page.text('main .why'),
+         RANKED + '2 principals with a power weren’t asked about: u:x, g:yU+0009.')
+    page.click('document.querySelectorAll(".reach tbody td a")[2]')
+    same('ranked: a namespace leads to its path', (page.hash(), len(page.cells('.steps'))), ('#paths?who=g:devs&node=*\tdev', 1))
+    page.go('#paths?who=g:devs')
+    same('ranked: an answer in part', page.text('main p.muted'), 'They can take over everything in 12 namespaces, 3 users, 1 group, 40 service '
+         'accounts, 5 roles, in at most 4 steps. The page has 1 of 61 lines, which lead to everything or are the first; rbacaudit paths prints all.')
+    page.go('#who?who=g:devs')
+    same('ranked: of what somebody has', page.texts('main .tools a')[-1],
+         'Can take over everything in 12 namespaces, 3 users, 1 group, 40 service accounts, 5 roles')
+    page.is_quiet()
+
+
+RANKED = ('By rbacaudit paths: whom and what each principal can take over, step by step. Whoever can take over the most is listed first: everything '
+          'in the whole cluster, everything in a namespace, service accounts. Whoever isn’t listed can take over nobody and nothing, but for what '
+          'the groups they are in can. ')
+
+
 def shown_role(it, room):
     """In the watch list a path over a role has no binding for that step."""
     role, why = 'ClusterRole/hooks', 'ClusterRole/max ClusterRole/max 1 1'
@@ -408,5 +446,5 @@ def zoomed_paths(it, room):
     it.ask('Emulation.clearDeviceMetricsOverride')
 
 
-PATHS = (shown_paths, shown_role, shown_requests, empty_paths, hostile_paths, example_paths, long_path,
+PATHS = (shown_paths, ranked, shown_role, shown_requests, empty_paths, hostile_paths, example_paths, long_path,
          many_paths, zoomed_paths)

@@ -5,6 +5,7 @@ apart.
 import base64
 import contextlib
 import html.parser
+import itertools
 import json
 import os
 import re
@@ -12,6 +13,7 @@ import struct
 import subprocess
 import sys
 import tempfile
+import zlib
 
 from common import TOP, checked
 
@@ -192,7 +194,36 @@ class Parts(html.parser.HTMLParser):
             self.texts[self.open] = self.texts.get(self.open, '') + data
 
     def data(self):
-        return json.loads(self.texts['script', 'application/json'])
+        """What the page holds, with what is packed."""
+        data = json.loads(self.texts['script', 'application/json'])
+        packed = data.pop('packed', None)
+        return data if packed is None else {**data, **json.loads(zlib.decompress(base64.b64decode(packed)))}
+
+
+def sums(differences):
+    """Numbers from their differences."""
+    return [*itertools.accumulate(differences)]
+
+
+def parts_of(lengths, items):
+    """Items as parts of these lengths."""
+    ends = sums(lengths)
+    return [items[end - length:end] for length, end in zip(lengths, ends)]
+
+
+def rows_in(coded):
+    """The rows that a page's sets stand for: those of a run in order of their entries, and of its
+    grants."""
+    words, entries = coded['words'], [*zip(*map(sums, coded['entries']))]
+    sets = parts_of(sums(coded['sets'][0]), sums(coded['sets'][1]))
+    who, namespaces, lengths = map(sums, coded['runs'])
+    grants = parts_of(lengths, [*zip(*map(sums, coded['grants']))])
+    rows = []
+    for at, of_run in enumerate(grants):
+        for entry, number in sorted((entry, number) for number, (_, of_set) in enumerate(of_run) for entry in sets[of_set]):
+            places = who[at], namespaces[at], *entries[entry], of_run[number][0]
+            rows.append('\t'.join(of_field[place] for of_field, place in zip(words, places)))
+    return rows
 
 
 def lines_in(coded):

@@ -120,9 +120,10 @@ Write everything about the export as one HTML file, which any current browser op
 
 The rows are those of matrix --once, over the universe that kubectl rbacaudit universe writes: without object names. What holds in the whole cluster
 is listed once, and the page shows it in each namespace. A FILE may be a Universe document of your own: each of its fields replaces a list of that
-universe. The page also shows the findings of lint. Its watch list counts separately who may do something only to objects with certain names, whether
-the Universe document has these names or not. --export, --partial, --context, --kubeconfig and --request-timeout mean what kubectl rbacaudit --help
-says. Exit status: 0 the page is written; 2 an error.
+universe. The page also shows the findings of lint, and whom everybody with a power can take over: it asks paths about them for up to 60 seconds, and
+the page says about whom it didn't ask. Its watch list counts separately who may do something only to objects with certain names, whether the Universe
+document has these names or not. --export, --partial, --context, --kubeconfig and --request-timeout mean what kubectl rbacaudit --help says. Exit
+status: 0 the page is written; 2 an error.
 '''
 ACCESS = '''\
 Show what a user or a group may do, as a table of types by verbs.

@@ -16,26 +16,30 @@ import re
 import shutil
 import signal
 import sys
+import zlib
 from array import array
 from collections.abc import Iterable, Iterator, Sequence
 from contextlib import suppress
+from itertools import chain, islice
 
 from .escapes import escape_title, script_class
 from .fields import BINDING, FIELD, PRINCIPAL, ROLE, STEP
+from .page_rows import ROW_FORM, Rows
 from .terminal import Progress, Refused, report
 
 PROGRAM = 'rbacaudit-page'
-MOST_ROWS = 500_000
-EACH = 20_000   # how many rows are read between two texts of a line of progress
-_ROW = PRINCIPAL + '(?:\t%s){5}\t(?:Cluster)?RoleBinding/%s' % (FIELD, FIELD)
-ROW, CHANGE = re.compile(_ROW), re.compile('[+-]\t(?:%s|r:%s(?:\t%s){5}\t-)' % (_ROW, ROLE, FIELD))
-FINDING, TYPE = re.compile('%s(?:\t%s){4}' % (FIELD, FIELD)), re.compile('%s\t%s' % (FIELD, FIELD))
+MOST_LINES = 500_000
+MOST_PLAIN = 200_000    # how much JSON a page has that isn't packed
+PIECE = 50_000          # how many items of a list are written at once
+CHANGE = re.compile('[+-]\t(?:%s|r:%s(?:\t%s){5}\t-)' % (ROW_FORM, ROLE, FIELD))
+WHO, FINDING, TYPE = re.compile(PRINCIPAL), re.compile('%s(?:\t%s){4}' % (FIELD, FIELD)), re.compile('%s\t%s' % (FIELD, FIELD))
 NAMED, NOTICE = re.compile('(?:%s\t){3}%s\t%s' % (FIELD, PRINCIPAL, BINDING)), re.compile(r'[^\x00-\x08\x0a-\x1f\x7f]+')
+REACH = re.compile('%s\t(?:-|[1-9][0-9]{0,8})(?:\t[0-9]{1,9}){7}' % PRINCIPAL)
 ABOUT = re.compile('(context|server|version|time|only): (.+)')
 HERE = os.path.dirname(os.path.realpath(__file__))
 # The files of the page: in the sources, and where make install puts them.
 FOLDERS = [os.path.normpath(os.path.join(HERE, names)) for names in ('../../page', '../../../share/rbacaudit/page')]
-SCRIPTS = ('data.js', 'scopes.js', 'facts.js', 'tables.js', 'views.js', 'paths.js', 'watch.js', 'grid.js', 'main.js')
+SCRIPTS = ('data.js', 'sets.js', 'scopes.js', 'facts.js', 'tables.js', 'views.js', 'rows.js', 'paths.js', 'watch.js', 'grid.js', 'main.js')
 HELP = """\
 Write rows of rbacaudit matrix as one HTML file: who has what, what is worth watching, and all rows,
 to be searched, filtered and saved. Any current browser opens the file, without a server and
@@ -44,15 +48,18 @@ without the network.
   rbacaudit matrix --once *.json | rbacaudit-page --output access.html
 """
 MORE = """\
-The rows are read from standard input, with their last line, end or next. More than %d are
-refused. --paths may be given more than once: its files may have as many lines in all. Without
---output the page goes to standard output. Exit status: 0 the page is written; 2 an error.
-""" % MOST_ROWS
+The rows are read from standard input, with their last line, end or next. More than a browser holds
+are refused (man rbacaudit-page). --paths may be given more than once: its files may have %d lines
+in all. Without --output the page goes to standard output. Exit status: 0 the page is written; 2 an
+error.
+""" % MOST_LINES
 # Each option with its value and what it means.
 OPTIONS = (
     ('lint', 'FILE', 'findings to show with the rows: lines of rbacaudit lint'),
     ('diff', 'FILE', 'changes to show with the rows: lines of rbacaudit diff'),
     ('paths', 'FILE', 'paths to show with the rows: lines of rbacaudit paths or who-can --indirect'),
+    ('reach', 'FILE', 'how far principals reach whose paths the page has in part (see the man page)'),
+    ('unasked', 'FILE', 'principals whose paths the page lacks: u:NAME or g:NAME'),
     ('named', 'FILE', 'holders limited to object names: verb, API group, resource, who, binding'),
     ('namespaced', 'FILE', 'types that have namespaces: API group and resource'),
     ('notices', 'FILE', 'lines to show at the top, such as what the rows lack'),
@@ -68,6 +75,7 @@ def read_options(words: Sequence[str]) -> argparse.Namespace:
     for name, value, text in OPTIONS:
         parser.add_argument('--' + name, metavar=value, help=text, action='append' if name == 'paths' else 'store',
                             default={'title': 'Who can do what', 'paths': []}.get(name))
+    parser.add_argument('--plain', action='store_true', help='pack nothing, for browsers before 2023')
     parser.add_argument('--watched', action='store_true', help='print the watch list: step, verb, API group and resource')
     return parser.parse_args(words)
 
@@ -95,8 +103,8 @@ def hash_of(text: str) -> str:
 
 # ---- the page
 
-def beside(given: argparse.Namespace) -> dict[str, object]:
-    """What is shown beside the rows: nothing where no file is given."""
+def beside(given: argparse.Namespace) -> tuple[dict[str, object], dict[str, object]]:
+    """What is shown beside the rows, and of this what may be large: nothing where no file is given."""
     def lines(path: str | None, form: re.Pattern[str], what: str) -> list[str] | None:
         return None if path is None else listed(path, form, what)
 
@@ -115,27 +123,73 @@ def beside(given: argparse.Namespace) -> dict[str, object]:
     def split(lines: list[str] | None) -> list[list[str]] | None:
         return None if lines is None else [line.split('\t') for line in lines]
 
-    return {'findings': split(findings), 'changes': None if changes is None else coded(changes, 8),
-            'paths': answers.coded() if given.paths else None, 'named': None if named is None else coded(named, 5),
-            'namespaced': split(types), 'notices': lines(given.notices, NOTICE, 'text') or [],
-            'about': {} if given.about is None else about(given.about)}
+    small: dict[str, object] = {'namespaced': split(types), 'notices': lines(given.notices, NOTICE, 'text') or [],
+                                'unasked': lines(given.unasked, WHO, 'principals'), 'about': {} if given.about is None else about(given.about)}
+    return small, {'findings': split(findings), 'changes': None if changes is None else coded(changes, 8),
+                   'reach': split(lines(given.reach, REACH, 'how far principals reach')),
+                   'paths': answers.coded() if given.paths else None, 'named': None if named is None else coded(named, 5)}
 
 
-def page(title: str, data: dict[str, object]) -> str:
-    """The whole page, as text."""
+def pieces_of(value: object) -> Iterator[str]:
+    """JSON for a script element, in pieces: ASCII alone, and nothing that HTML could take for markup. An iterator is a list."""
+    if isinstance(value, dict):
+        yield '{'
+        for number, (key, item) in enumerate(value.items()):
+            yield '%s"%s":' % (',' if number else '', key)
+            yield from pieces_of(item)
+        yield '}'
+    elif isinstance(value, list) and any(isinstance(item, Iterator) for item in value):
+        for number, item in enumerate(value):
+            yield ',' if number else '['
+            yield from pieces_of(item)
+        yield ']'
+    elif isinstance(value, Iterator):
+        begin = '['
+        while items := list(islice(value, PIECE)):
+            yield begin + in_script(items)[1:-1]
+            begin = ','
+        yield ']' if begin == ',' else '[]'
+    else:
+        yield in_script(value)
+
+
+def in_script(value: object) -> str:
+    return json.dumps(value, separators=(',', ':')).replace('<', '\\u003c').replace('>', '\\u003e').replace('&', '\\u0026')
+
+
+def page(title: str, small: dict[str, object], large: dict[str, object], is_plain: bool) -> Iterator[str]:
+    """The page, in pieces. What may be large is packed if it is, unless all has to be plain."""
     style, script = part('page.css'), ''.join(map(part, SCRIPTS))
     fixed = {'watched': json.loads(part('watched.json')), 'cluster': json.loads(part('cluster.json')), 'unseen': script_class()}
-    # (JSON for a script element: ASCII alone, and nothing that HTML could take for markup)
-    text = json.dumps({**data, **fixed}, separators=(',', ':')).replace('<', '\\u003c').replace('>', '\\u003e').replace('&', '\\u0026')
     parts = {'title': html.escape(escape_title(title)), 'style': style, 'style-hash': hash_of(style), 'script': script,
-             'script-hash': hash_of(script), 'data': text}
-    return re.sub(r'\{\{([a-z-]+)\}\}', lambda found: parts[found[1]], part('page.html'))
+             'script-hash': hash_of(script)}
+    first, last = (re.sub(r'\{\{([a-z-]+)\}\}', lambda found: parts[str(found[1])], half) for half in part('page.html').split('{{data}}'))
+    return chain([first, in_script({**small, **fixed})[:-1], ','], pieces_packed(large, is_plain), [last])
 
 
-def made(given: argparse.Namespace, lines: Iterable[bytes] | None) -> str:
-    """What is to be written: the watch list, or the page of what is read."""
+def pieces_packed(large: dict[str, object], is_plain: bool) -> Iterator[str]:
+    """JSON for the rest of a dictionary, after what has its first brace: as it is, or packed."""
+    begin, size, rest = list[str](), 0, pieces_of(large)
+    next(rest)      # its brace
+    while size <= MOST_PLAIN and (piece := next(rest, '')):
+        begin.append(piece)
+        size += len(piece)
+    if is_plain or size <= MOST_PLAIN:
+        return chain(begin, rest)
+    return iter(['"packed":"', packed(chain(begin, rest)), '"}'])
+
+
+def packed(pieces: Iterable[str]) -> str:
+    """Pieces of JSON but for its first brace, compressed, in base64."""
+    pack = zlib.compressobj()
+    data = pack.compress(b'{') + b''.join(pack.compress(piece.encode()) for piece in pieces) + pack.flush()
+    return binascii.b2a_base64(data, newline=False).decode()
+
+
+def made(given: argparse.Namespace, lines: Iterable[bytes] | None) -> Iterator[str]:
+    """What is to be written, in pieces: the watch list, or the page of what is read."""
     if given.watched:
-        return ''.join('\t'.join(pair) + '\n' for pair in watched())
+        return iter(['\t'.join(pair) + '\n' for pair in watched()])
     if lines is None and os.isatty(0) or given.output is None and os.isatty(1):
         raise Refused('rows come from a pipe or a file, and the page goes into a file: '
                       'rbacaudit matrix --once *.json | rbacaudit-page --output access.html')
@@ -145,12 +199,12 @@ def made(given: argparse.Namespace, lines: Iterable[bytes] | None) -> str:
     folder = os.path.dirname(os.path.realpath(given.output or '.'))
     if not os.path.isdir(folder):
         raise Refused('there is no folder %s for the page' % folder)
-    data, progress = beside(given), Progress(PROGRAM, 40)
+    (small, large), progress, rows = beside(given), Progress(PROGRAM, 40), Rows()
     try:
-        rows, is_whole = matrix_rows(open(0, 'rb', closefd=False) if lines is None else lines, progress)
+        is_whole = rows.read(open(0, 'rb', closefd=False) if lines is None else lines, progress)
     finally:
         progress.erase()
-    return page(given.title, {'whole': is_whole, 'rows': coded(rows, 7), **data})
+    return page(given.title, {'whole': is_whole, **small}, {'rows': rows.coded(), **large}, given.plain)
 
 
 # ---- lines
@@ -170,8 +224,8 @@ def listed(path: str, form: re.Pattern[str], what: str) -> list[str]:
     found: list[str] = []
     with open(path, 'rb') as file:
         for place, line in lines_of(file, path):
-            if len(found) == MOST_ROWS:
-                raise Refused('%s has more than %d lines, too many for a page' % (path, MOST_ROWS))
+            if len(found) == MOST_LINES:
+                raise Refused('%s has more than %d lines, too many for a page' % (path, MOST_LINES))
             if not form.fullmatch(line):
                 raise Refused('%s: no line of %s' % (place, what))
             found.append(line)
@@ -182,39 +236,6 @@ def about(path: str) -> dict[str, str]:
     """What the about.txt of an export says of where, when and of what namespace it is."""
     with open(path, encoding='utf-8', errors='replace') as file:
         return {found[1]: found[2] for found in map(ABOUT.fullmatch, file.read().split('\n')) if found}
-
-
-def matrix_rows(lines: Iterable[bytes], progress: Progress) -> tuple[list[str], bool]:
-    """The rows of a matrix, and whether its last line says that they are all; without such a line it is refused."""
-    found: list[str] = []
-    last = ''
-    for place, line in lines_of(lines, 'standard input'):
-        if last:
-            raise Refused('%s: follows the last line of a matrix, %s: give one matrix' % (place, last.split('\t')[0]))
-        if line == 'end' or line.startswith('next\t'):
-            last = line
-            continue
-        if not ROW.fullmatch(line):
-            raise Refused(place + ': no row of a matrix')
-        if len(found) == MOST_ROWS:
-            raise Refused('there are more than %d rows, too many for a page: %s' % (MOST_ROWS, advice([row.split('\t') for row in found])))
-        found.append(line)
-        if len(found) % EACH == 0:
-            progress.draw('{:,} rows read'.format(len(found)))
-    if not last:
-        raise Refused('standard input has no last line, end or next, so rows may be missing: did rbacaudit matrix fail? '
-                      'A filter before the page has to let that line through')
-    return found, last == 'end'
-
-
-def advice(rows: Sequence[Sequence[str]]) -> str:
-    """What makes rows fewer that are too many for a page."""
-    if any(row[1] != '-' and row[6].startswith('ClusterRoleBinding/') for row in rows):
-        return 'matrix --once lists once what holds in the whole cluster'
-    if any(row[5] != '-' for row in rows):
-        return 'leave out the names of objects, by "names": [""] in a Universe document'
-    return ('make the page of one namespace, as kubectl rbacaudit page -n NS does, or a Universe document with fewer principals, namespaces or '
-            'resources')
 
 
 def coded(lines: Sequence[str], fields: int) -> dict[str, object]:
@@ -269,9 +290,9 @@ class Answers:
                 kind = form or (WAYS if line.startswith('0\t') else PATHS)
                 if not self.forms[kind].fullmatch(line):
                     raise Refused('%s: no line of %s' % (place, form or 'rbacaudit paths or who-can --indirect'))
-                if len(self.lines) == MOST_ROWS:
+                if len(self.lines) == MOST_LINES:
                     raise Refused('%s: --paths has more than %d lines, too many for a page: give the paths of fewer principals, or some steps of them, '
-                                  'by paths --steps' % (place, MOST_ROWS))
+                                  'by paths --steps' % (place, MOST_LINES))
                 number, node, where, other, there = line.split('\t', 5)[:5]
                 is_first, other = not form, other + '\t' + there
                 if is_first or kind == PATHS and number == '1' and (other != self.found[-1][1] or self.most > 1):
@@ -310,17 +331,17 @@ class Answers:
 
 # ---- what is written
 
-def replace(path: str, data: bytes) -> None:
+def replace(path: str, pieces: Iterable[bytes]) -> None:
     """Puts data in the place of a file, whole or not at all; what is no file, such as a pipe, is written to."""
     path = os.path.realpath(path)
     if os.path.exists(path) and not os.path.isfile(path):
         with open(path, 'wb') as out:
-            out.write(data)
+            out.writelines(pieces)
         return
     new = '%s.%d.new' % (path, os.getpid())
     try:
         with open(new, 'xb') as out:
-            out.write(data)
+            out.writelines(pieces)
         with suppress(FileNotFoundError):
             shutil.copymode(path, new)
         os.replace(new, path)
@@ -335,16 +356,16 @@ def main(words: Sequence[str], rows: Iterable[bytes] | None = None) -> int:
         signal.signal(number, lambda number, _: sys.exit(128 + number))     # (so that nothing half written stays behind)
     given = read_options(words)
     try:
-        data = made(given, rows).encode()
+        pieces = (piece.encode() for piece in made(given, rows))
     except (Refused, OSError) as fault:
         report('%s: %s' % (fault.filename or 'standard input', fault.strerror) if isinstance(fault, OSError) else str(fault), PROGRAM)
         return 2
     try:
         if given.output is not None and not given.watched:
-            replace(given.output, data)
+            replace(given.output, pieces)
         else:
             with open(1, 'wb', closefd=False) as out:
-                out.write(data)
+                out.writelines(pieces)
     except OSError as fault:
         report("the %s can't be written: %s" % ('watch list' if given.watched else 'page', fault.strerror), PROGRAM)
         return 2

@@ -14,6 +14,7 @@ from .export import open_export, write_about
 from .fields import has_name, in_field, place_of
 from .listed import Type, list_types, make_universe
 from .options import read_options
+from .page_paths import Paths, words_for
 from .processes import Session
 from .question import Question, check_cluster
 from .remarks import look_for_universes, on_namespace, stale_in
@@ -40,8 +41,8 @@ def page_command(session: Session, words: list[str]) -> int:
     return write_page(asking)
 
 
-def write_page(asking: Asking, *more: str) -> int:
-    """Writes the page of the export that is open, and of the FILEs: each text goes to the page as a file. `more` are words for the page."""
+def write_page(asking: Asking) -> int:
+    """Writes the page of the export that is open, and of the FILEs: each text goes to the page as a file."""
     session, options, export = asking.session, asking.options, asking.export
     text, types = make_universe(asking)
     given = [session.write('universe.json', text), *asking.question.files]
@@ -56,7 +57,10 @@ def write_page(asking: Asking, *more: str) -> int:
     if export and export.is_fresh:
         write_about(session, options, export.folder, export.read)
     about = export.path('about.txt') if export and export.has('about.txt') else ''
-    words = [*more, *(word for name, value in texts.items() for word in (name, session.write('page' + name, value)))]
+    words = [word for name, value in texts.items() for word in (name, session.write('page' + name, value))]
+    paths = Paths(asking)
+    paths.ask()
+    words += [*words_for(paths)]
     words += ['%s=%s' % pair for pair in (('--diff', options.diff), ('--about', about), ('--title', options.title), ('--output', options.output))
               if pair[1]]
     place = {'namespaces': ['', options.namespace]} if options.namespace else {}

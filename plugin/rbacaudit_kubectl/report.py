@@ -177,9 +177,7 @@ def report_command(session: Session, words: list[str]) -> int:
     export = open_export(session, options, question, options.export)
     asking = Asking(session, options, question, export)
     if is_page:
-        files = asking.files('cluster.json', 'namespaced.json', 'accounts.json')
-        takeovers = session.write('everything in the whole cluster', ask_well(asking, [*EVERYTHING, *files], files).out)
-        return write_page(asking, '--paths', takeovers)
+        return write_page(asking)
     if export.is_fresh:
         write_about(session, options, export.folder, export.read)
     report = report_of(asking)

@@ -54,7 +54,7 @@ def has_colors(when: str, environment: Mapping[str, str]) -> bool:
 
 @dataclass
 class Progress:
-    """A line on a terminal that says how far something is, and goes away."""
+    """A line on a terminal that says how far something is, and goes away; `room` is how wide it has been at most."""
     prefix: str = PLUGIN
     room: int = 60
     is_drawn: bool = False
@@ -63,7 +63,9 @@ class Progress:
         """Puts a text into the line."""
         if os.isatty(2):
             self.is_drawn = True
-            say('\r%s: %s' % (self.prefix, on_one_line(text)))
+            line = '%s: %s' % (self.prefix, on_one_line(text))
+            self.room = max(self.room, len(line))
+            say('\r' + line)
 
     def erase(self) -> None:
         """Takes the line away."""
