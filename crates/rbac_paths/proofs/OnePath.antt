@@ -1,5 +1,5 @@
 -- The one path to a node: how it is found from the end of the paths, and that there is one.
-use Rattle.std.proofs.Common.{◌≡◌, ◌≢◌, ◌⊎◌, ◌+◌, ◌<◌, ◌∙◌, ◌++◌, ◌∷◌, ℕ, zero, suc, [], List, Option, None, Some, All, AllPairs, Any, Bor, Contains, MatchOption, append-nil, append_assoc, arith, ap, get_or, inl, inr, length, length-append, refl, subst, sym}
+use Rattle.std.proofs.Common.{◌≡◌, ◌≢◌, ◌⊎◌, ◌+◌, ◌<◌, ◌∙◌, ◌++◌, ◌∷◌, ℕ, zero, suc, [], List, Option, All, AllPairs, Any, Contains, append-nil, append_assoc, arith, ap, get_or, inl, inr, length, length-append, refl, subst, sym}
 use Rattle.std.specs.Ordering.{ordering_reverse}
 use Rattle.std.specs.declared.cmp.Ordering.TheVariants.{Less, Greater}
 use Rattle.std.proofs.lemmas.Cmp.{nat_list_cmp_total}
@@ -12,7 +12,7 @@ use Rattle.rbac_terms.specs.Principals.{Who}
 use Rattle.rbac_model.specs.Policies.{PolicyView}
 use Rattle.rbac_paths.specs.NodeLists.{node_text}
 use Rattle.rbac_paths.specs.Nodes.{NodeView}
-use Rattle.rbac_paths.specs.OnePath.{Connects, IsChain, IsLastTo, IsPathTo, IsPrintedBefore, IsTo}
+use Rattle.rbac_paths.specs.OnePath.{Connects, IsChain, IsLastTo, IsPathTo, IsPrintedBefore, IsTo, IsWantedNext}
 use Rattle.rbac_paths.specs.Paths.{ArePaths, GoesTo, IsFewest, IsNearer, IsPath, PathView}
 use Rattle.rbac_paths.proofs.Following.{lead_back}
 use Rattle.rbac_paths.proofs.OnePaths.{ascend, one_count, one_path, path_name}
@@ -42,26 +42,19 @@ Leads start left x = ((x.count ≡ 1) × (x.before ≡ start)) ⊎ Any (λ z. (z
 
 -- paths were taken, of which x is the first; the others of the path to TO are left
 pub record IsTrail (start : NodeView) (to : Text) (scope : Option Text) (xs left chain : List PathView) (x : PathView) : Type 0 where
-  pub rest : List PathView
-  pub head : chain ≡ x ∷ rest
   pub connects : Connects x.before to scope xs chain
   pub leads : Leads start left x
 
--- nothing was taken, and each path to TO is left
-abbrev pub IsUntaken : Text → Option Text → List PathView → List PathView → List PathView → Type 0
-IsUntaken to scope xs left chain = (chain ≡ []) × ((y : PathView) → Contains xs y → IsTo to scope y.node → Contains left y)
+-- the paths xs were followed from the end, as far as those that are left: nothing was taken, and each path to TO is left; or some were
+abbrev pub IsTaken : NodeView → Text → Option Text → List PathView → List PathView → List PathView → Type 0
+IsTaken start to scope xs left [] = (y : PathView) → Contains xs y → IsTo to scope y.node → Contains left y
+IsTaken start to scope xs left (x ∷ chain) = IsTrail start to scope xs left (x ∷ chain) x
 
--- the paths xs were followed from the end, as far as those that are left
-abbrev pub IsWalked : NodeView → Text → Option Text → List PathView → List PathView → Option (Bor PathView) → List PathView → Type 0
-IsWalked start to scope xs left after chain = (passed : List PathView) × (xs ≡ left ++ passed)
-    × MatchOption after (IsUntaken to scope xs left chain) (λ x. IsTrail start to scope xs left chain x.now)
+abbrev pub IsWalked : NodeView → Text → Option Text → List PathView → List PathView → List PathView → Type 0
+IsWalked start to scope xs left chain = (passed : List PathView) × (xs ≡ left ++ passed) × IsTaken start to scope xs left chain
 
--- the next path that is wanted
-abbrev pub IsWantedNext : Text → Option Text → Option (Bor PathView) → PathView → Type 0
-IsWantedNext to scope after y = MatchOption after (IsTo to scope y.node) (λ x. IsPrintedBefore x.now y)
-
-pub walk_begun : (start : NodeView) (to : Text) (scope : Option Text) (xs : List PathView) → IsWalked start to scope xs xs None []
-walk_begun start to scope xs = ([], sym (append-nil xs), refl, λ y has is. has)
+pub walk_begun : (start : NodeView) (to : Text) (scope : Option Text) (xs : List PathView) → IsWalked start to scope xs xs []
+walk_begun start to scope xs = ([], sym (append-nil xs), λ y has is. has)
 
 module _ (p : PolicyView) (all : List Who) (steps : List Step) (start : NodeView) (xs : List PathView) (are : ArePaths p all steps start xs) where
   path_of : (x : PathView) → Contains xs x → IsPath p all steps start x
@@ -90,7 +83,7 @@ module _ (p : PolicyView) (all : List Who) (steps : List Step) (start : NodeView
   alike y z a b counts texts = one_of_name path_name xs y z (ascend p all steps start xs are) a b (λ i. (counts i ∷ []) ∷ texts i ∷ [])
 
   module _ (to : Text) (scope : Option Text) where
-    abbrev Walked : List PathView → Option (Bor PathView) → List PathView → Type 0
+    abbrev Walked : List PathView → List PathView → Type 0
     Walked = IsWalked start to scope xs
 
     within : (rest passed : List PathView) (y : PathView) → xs ≡ (rest ++ y ∷ []) ++ passed → (z : PathView) → Contains (rest ++ y ∷ []) z → Contains xs z
@@ -105,14 +98,14 @@ module _ (p : PolicyView) (all : List Who) (steps : List Step) (start : NodeView
       | inr same ↦ absurd (not (ap (λ (w : PathView). w.count + 1) same ∙ count, ap (λ (w : PathView). node_text w.node) same ∙ ap node_text node))
     ]
 
-    pub walk_on : (rest : List PathView) (y : PathView) (after : Option (Bor PathView)) (chain : List PathView) → (IsWantedNext to scope after y → ⊥) → Walked (rest ++ y ∷ []) after chain → Walked rest after chain
-    walk_on rest y None chain not (passed, split, (none, all_left)) =
-        (y ∷ passed, split ∙ append_assoc rest (y ∷ []) passed, none, λ z has is. elim (Contains-push_cases rest y z (all_left z has is)) [
+    pub walk_on : (rest : List PathView) (y : PathView) (chain : List PathView) → (IsWantedNext to scope chain y → ⊥) → Walked (rest ++ y ∷ []) chain → Walked rest chain
+    walk_on rest y [] not (passed, split, all_left) =
+        (y ∷ passed, split ∙ append_assoc rest (y ∷ []) passed, λ z has is. elim (Contains-push_cases rest y z (all_left z has is)) [
           | inl there ↦ there
           | inr same ↦ absurd (not (subst (λ (w : PathView). IsTo to scope w.node) (sym same) is))
         ])
-    walk_on rest y (Some x) chain not (passed, split, trail) =
-        (y ∷ passed, split ∙ append_assoc rest (y ∷ []) passed, record { rest = trail.rest; head = trail.head; connects = trail.connects; leads = unwanted rest y x.now not trail.leads })
+    walk_on rest y (x ∷ chain) not (passed, split, trail) =
+        (y ∷ passed, split ∙ append_assoc rest (y ∷ []) passed, record { connects = trail.connects; leads = unwanted rest y x not trail.leads })
 
     -- ---- a path that is wanted
 
@@ -134,32 +127,32 @@ module _ (p : PolicyView) (all : List Who) (steps : List Step) (start : NodeView
         let same : y ≡ z = alike y z has (kept z (k, low, is)) (omega (arith, count, below)) (text ∙ ap node_text (sym node)) in
         ap (λ (w : PathView). w.node) same ∙ node
 
-    pub walk_taken : (rest : List PathView) (b : Bor PathView) (after : Option (Bor PathView)) (chain : List PathView) → IsWantedNext to scope after b.now → Walked (rest ++ b.now ∷ []) after chain
-        → Walked rest (Some b) (b.now ∷ chain)
-    walk_taken rest b None chain is (passed, split, (none, all_left)) =
-        let y = b.now in
+    pub walk_taken : (rest : List PathView) (y : PathView) (chain : List PathView) → IsWantedNext to scope chain y → Walked (rest ++ y ∷ []) chain → Walked rest (y ∷ chain)
+    walk_taken rest y [] is (passed, split, all_left) =
         let last : IsLastTo to scope xs y = last_to rest passed y split is all_left in (
           y ∷ passed,
           split ∙ append_assoc rest (y ∷ []) passed,
           record {
-            rest = chain;
-            head = refl;
-            connects = record { earlier = []; end = y; ends = ap (λ (l : List PathView). y ∷ l) none; is = last; listed = All-cons (Contains xs) y chain last.listed (subst (All (Contains xs)) (sym none) (All-nil (Contains xs))); joined = (refl, subst (IsChain y.node) (sym none) tt) };
+            connects = record { earlier = []; end = y; ends = refl; is = last; listed = All-cons (Contains xs) y [] last.listed (All-nil (Contains xs)); joined = (refl, tt) };
             leads = leads_on rest passed y split last.listed;
           },
         )
-    walk_taken rest b (Some x) chain is (passed, split, trail) =
-        let y = b.now in
+    walk_taken rest y (x ∷ chain) is (passed, split, trail) =
         let kept = within rest passed y split in
         let has : Contains xs y = kept y (Contains-push rest y) in
-        let same : y.node ≡ x.now.before = node_before (rest ++ y ∷ []) y x.now kept has is trail.leads in
+        let same : y.node ≡ x.before = node_before (rest ++ y ∷ []) y x kept has is trail.leads in
         let c = trail.connects in (
           y ∷ passed,
           split ∙ append_assoc rest (y ∷ []) passed,
           record {
-            rest = chain;
-            head = refl;
-            connects = record { earlier = y ∷ c.earlier; end = c.end; ends = ap (λ (l : List PathView). y ∷ l) c.ends; is = c.is; listed = All-cons (Contains xs) y chain has c.listed; joined = (refl, subst (λ (n : NodeView). IsChain n chain) (sym same) c.joined) };
+            connects = record {
+              earlier = y ∷ c.earlier;
+              end = c.end;
+              ends = ap (λ (l : List PathView). y ∷ l) c.ends;
+              is = c.is;
+              listed = All-cons (Contains xs) y (x ∷ chain) has c.listed;
+              joined = (refl, subst (λ (n : NodeView). IsChain n (x ∷ chain)) (sym same) c.joined);
+            };
             leads = leads_on rest passed y split has;
           },
         )
@@ -172,9 +165,9 @@ module _ (p : PolicyView) (all : List Who) (steps : List Step) (start : NodeView
         inr (record { earlier = c.earlier; end = c.end; ends = c.ends; is = c.is; listed = c.listed; joined = subst (λ (n : NodeView). IsChain n chain) is c.joined })
     ended x chain trail (inr (k, z, low, is, both)) = absurd (omega (arith, low))
 
-    pub walk_ended : (after : Option (Bor PathView)) (chain : List PathView) → Walked [] after chain → IsPathTo start to scope xs chain
-    walk_ended None chain (passed, split, (none, all_left)) = inl (none, λ (k, x, low, is, too). absurd (let past = (all_left x (k, low, is) too).1 in omega (arith, past)))
-    walk_ended (Some x) chain (passed, split, trail) = ended x.now chain trail trail.leads
+    pub walk_ended : (chain : List PathView) → Walked [] chain → IsPathTo start to scope xs chain
+    walk_ended [] (passed, split, all_left) = inl (refl, λ (k, x, low, is, too). absurd (let past = (all_left x (k, low, is) too).1 in omega (arith, past)))
+    walk_ended (x ∷ chain) (passed, split, trail) = ended x (x ∷ chain) trail trail.leads
 
   -- ---- there is one
 

@@ -51,3 +51,9 @@ IsPathTo start to scope xs chain = ((chain ≡ []) × (¬ Any (λ x. IsTo to sco
 -- x has one step less than y, and its node is printed as the node before y is
 abbrev pub IsPrintedBefore : PathView → PathView → Type 0
 IsPrintedBefore y x = (x.count + 1 ≡ y.count) × (node_text x.node ≡ node_text y.before)
+
+-- y is the next path that is wanted, from the end: the path to TO if none is taken yet, and
+-- otherwise the path to the node before the first one that is taken
+abbrev pub IsWantedNext : Text → Option Text → List PathView → PathView → Type 0
+IsWantedNext to scope [] y = IsTo to scope y.node
+IsWantedNext to scope (x ∷ chain) y = IsPrintedBefore x y

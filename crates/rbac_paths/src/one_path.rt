@@ -1,12 +1,13 @@
 //! The one path to a node that is asked for, among all paths from a start.
 
-ghost use Rattle.std.specs.Prelude.{◌≡◌, ◌↔◌, IfOk, IsTrue, List, MatchOption};
+ghost use Rattle.std.specs.Prelude.{◌≡◌, ◌↔◌, IfOk, IsTrue, List, reverse};
 ghost use Rattle.std.specs.Option.{option_copied};
 ghost use Rattle.rbac_terms.specs.Principals.{Who};
 ghost use Rattle.rbac_model.specs.Policies.{PolicyView};
 ghost use Rattle.rbac_steps.specs.declared.steps.Step.{Step};
 ghost use Rattle.rbac_paths.specs.Nodes.{Somebody, node_of};
 ghost use Rattle.rbac_paths.specs.OnePath.{IsIn, IsPathTo, IsPrintedBefore, IsTo};
+ghost use Rattle.rbac_paths.specs.OnePath.{IsWantedNext};
 ghost use Rattle.rbac_paths.specs.Paths.{ArePathsOf};
 
 use crate::all_paths::Path;
@@ -31,34 +32,29 @@ pub fn path_to<'p>(
         → IsPathTo (Somebody who) to.now (option_copied scope.entry) found.now chain.items) }
 {
     let mut chain = Vec::new(alloc);
-    let mut after = None;
-    let mut left = found;
-    while let Some((path, rest)) = left.split_last() {
-        left = rest;
-        if is_wanted(alloc, path, after, to, scope)? {
+    for path in found.iter().rev() {
+        if is_wanted(alloc, path, chain.as_slice(), to, scope)? {
             chain.push(copy_of(path))?;
-            after = Some(path);
         }
     }
     chain.reverse();
     Ok(chain)
 }
 
-// Whether a path is wanted: the path to TO, or if paths behind it are taken, the path to the node
-// before the first of these.
+// Whether a path is wanted next: the path to TO if none is taken yet, and otherwise the path to the
+// node before the last one that was taken.
 fn is_wanted(
     alloc: Global,
     path: &Path<'_>,
-    after: Option<&Path<'_>>,
+    taken: &[Path<'_>],
     to: &Word,
     scope: Option<&Word>,
 ) -> Result<bool, AllocError>
-    ensures { IfOk result (λ is. IsTrue is ↔ MatchOption after.entry
-        (IsTo to.now (option_copied scope.entry) path.now.node)
-        (λ taken. IsPrintedBefore taken.now path.now)) }
+    ensures { IfOk result (λ is. IsTrue is
+        ↔ IsWantedNext to.now (option_copied scope.entry) (reverse taken.now) path.now) }
 {
-    match after {
-        Some(taken) => is_before(alloc, path, taken),
+    match taken.last() {
+        Some(last) => is_before(alloc, path, last),
         None => is_to(alloc, path.node, to, scope),
     }
 }
