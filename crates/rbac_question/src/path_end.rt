@@ -1,11 +1,12 @@
 //! Whom or what `--to` of a `paths` line asks for.
 
-ghost use Rattle.std.specs.Prelude.{◌≡◌, ◌↔◌, IfOk, IsTrue, MatchOption, option_map};
+ghost use Rattle.std.specs.Prelude.{◌≡◌, ◌↔◌, ◌⊎◌, [], IfOk, IsTrue, MatchOption, option_map};
 ghost use Rattle.rbac_terms.specs.Text.{Text};
 ghost use Rattle.rbac_question.specs.PathEnds.{GoWithEnd, HasNameAfter, IsEndGiven, IsGoodEnd};
 ghost use Rattle.rbac_question.specs.PathEnds.{IsKeyText, IsRoleIn, IsRoleText, IsScopedText};
 ghost use Rattle.rbac_question.specs.PathEnds.{place_given};
 
+use crate::who::name_behind;
 use rbac_terms::{MEMBER_PREFIX, USER_PREFIX, Word, cut_at_first};
 use std::alloc::{AllocError, Global};
 
@@ -25,14 +26,20 @@ impl Drop for PathEnd {
     }
 }
 
+// What comes before the name of a cluster role.
+const CLUSTER_ROLE_FRONT: &[u8] = b"ClusterRole/";
+
+// What comes before the namespace of a Role.
+const ROLE_FRONT: &[u8] = b"Role/";
+
+// Everything.
+const EVERYTHING: &[u8] = b"*";
+
 // Whether a text is this front and a name behind it.
 fn has_name_after(front: &[u8], text: &str) -> bool
     ensures { IsTrue result ↔ HasNameAfter front.now text.now }
 {
-    match text.as_bytes().strip_prefix(front) {
-        Some(name) => !name.is_empty(),
-        None => false,
-    }
+    name_behind(front, text).is_some()
 }
 
 // Whether a text is the key of a user or a group.
@@ -42,11 +49,18 @@ fn is_key(text: &str) -> bool
     has_name_after(USER_PREFIX, text) || has_name_after(MEMBER_PREFIX, text)
 }
 
+// Whether a text is the key of a user or a group, and no namespace is given.
+fn is_key_alone(text: &str, given: &str) -> bool
+    ensures { IsTrue result ↔ ((given.now ≡ []) × IsKeyText text.now) }
+{
+    given.is_empty() && is_key(text)
+}
+
 // Whether a text is `*` or `ClusterRole/NAME`.
 fn is_scoped(text: &str) -> bool
     ensures { IsTrue result ↔ IsScopedText text.now }
 {
-    text == "*" || has_name_after(b"ClusterRole/".as_slice(), text)
+    text.as_bytes() == EVERYTHING || has_name_after(CLUSTER_ROLE_FRONT, text)
 }
 
 // The namespace of `Role/NS/NAME`; `None` if the text is anything else.
@@ -55,12 +69,22 @@ fn role_namespace(text: &str) -> Option<&[u8]>
         (λ own. IsRoleText text.now own.now
         × ((other : Text) → IsRoleText text.now other → other ≡ own.now)) }
 {
-    let rest = text.as_bytes().strip_prefix(b"Role/".as_slice())?;
+    let rest = text.as_bytes().strip_prefix(ROLE_FRONT)?;
     let (namespace, name) = cut_at_first(rest, b'/')?;
-    if namespace.is_empty() || name.is_empty() {
+    if namespace.is_empty() {
+        return None;
+    }
+    if name.is_empty() {
         return None;
     }
     Some(namespace)
+}
+
+// Whether a namespace that is given is empty, or this one.
+fn is_none_or(given: &str, own: &[u8]) -> bool
+    ensures { IsTrue result ↔ ((given.now ≡ []) ⊎ (given.now ≡ own.now)) }
+{
+    given.is_empty() || given.as_bytes() == own
 }
 
 // Whether a text is `Role/NS/NAME`, and the namespace given is empty or the same.
@@ -68,16 +92,24 @@ fn is_role_in(text: &str, given: &str) -> bool
     ensures { IsTrue result ↔ IsRoleIn text.now given.now }
 {
     match role_namespace(text) {
-        Some(own) => given.is_empty() || given.as_bytes() == own,
+        Some(own) => is_none_or(given, own),
         None => false,
     }
+}
+
+// Whether a text is a Role or a key, and the namespace given goes with it.
+fn is_in_its_place(text: &str, given: &str) -> bool
+    ensures { IsTrue result
+        ↔ (IsRoleIn text.now given.now ⊎ ((given.now ≡ []) × IsKeyText text.now)) }
+{
+    is_role_in(text, given) || is_key_alone(text, given)
 }
 
 // Whether TO is one that `paths` prints, and `-n` goes with it.
 fn go_with_end(text: &str, given: &str) -> bool
     ensures { IsTrue result ↔ GoWithEnd text.now given.now }
 {
-    is_scoped(text) || is_role_in(text, given) || given.is_empty() && is_key(text)
+    is_scoped(text) || is_in_its_place(text, given)
 }
 
 // Whether `--to` and `-n` go together: without `--to`, no namespace is given.
