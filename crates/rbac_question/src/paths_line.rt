@@ -1,7 +1,7 @@
 //! What the texts of a `paths` line mean.
 
 ghost use Rattle.std.specs.Prelude.{◌≡◌, MatchResult};
-ghost use Rattle.rbac_question.specs.Lines.{HasBadPrincipal};
+ghost use Rattle.rbac_question.specs.Lines.{HasBadPrincipal, NamesPrincipal};
 ghost use Rattle.rbac_question.specs.PathsLines.{AcceptsPaths, MeansPaths, RefusesPaths};
 
 use crate::command::Action;
@@ -9,6 +9,7 @@ use crate::fault::QuestionFault;
 use crate::path_end::{end_from, is_good_end};
 use crate::steps_line::{names_steps, steps_from};
 use crate::who::{WhoLine, check_who, principal_of};
+use rbac_terms::Principal;
 use std::alloc::Global;
 use std::marker::Model;
 
@@ -59,13 +60,21 @@ fn check_paths(line: &PathsLine<'_, '_>) -> Result<(), QuestionFault>
     Ok(())
 }
 
+// The principal that WHO, `--groups` and `--group` name.
+fn named_by(alloc: Global, who: &WhoLine<'_, '_>) -> Result<Principal, QuestionFault>
+    requires { ¬ HasBadPrincipal who.now }
+    ensures { MatchResult result (NamesPrincipal who.now) (λ e. e ≡ QuestionFault.NoMemory) }
+{
+    principal_of(alloc, who)
+}
+
 // What an accepted `paths` line means.
 fn paths_from(alloc: Global, line: &PathsLine<'_, '_>) -> Result<Action, QuestionFault>
     requires { AcceptsPaths line.now }
     ensures { MatchResult result (MeansPaths line.now) (λ e. e ≡ QuestionFault.NoMemory) }
 {
     Ok(Action::Paths {
-        principal: principal_of(alloc, &line.who)?,
+        principal: named_by(alloc, &line.who)?,
         steps: steps_from(alloc, line.steps)?,
         to: end_from(alloc, line.to, line.namespace)?,
     })
