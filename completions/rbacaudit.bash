@@ -54,7 +54,7 @@ _rbacaudit() {
             places=() rest=file
             ;;
         paths)
-            options='--groups=text --group+=text --steps=step -h,--help'
+            options='--groups=text --group+=text --steps=step --to=text -n,--namespace=text -h,--help'
             places=(text) rest=file
             ;;
         diff)

@@ -26,8 +26,8 @@ function __rbacaudit_options
             echo '(?!)'
             string split ' ' 'h/help'
         case paths
-            echo '^(--(groups|group|steps))$'
-            string split ' ' 'groups= group= steps= h/help'
+            echo '^(--(groups|group|steps|to|namespace)|-[^-n]*[n])$'
+            string split ' ' 'groups= group= steps= to= n/namespace= h/help'
         case diff
             echo '^(--(before|after|without|with))$'
             string split ' ' 'before= after= without= with= h/help'
@@ -118,6 +118,9 @@ complete -c rbacaudit -n '__rbacaudit_lacks skip-system lint' -l skip-system -d 
 complete -c rbacaudit -n '__rbacaudit_lacks steps paths' -l steps -x -k \
     -a 'impersonate token run exec secrets nodes bind escalate certificates webhooks apiservices bootstrap volumes namespaces' \
     -d 'Only these steps count (default: all of powers)'
+complete -c rbacaudit -n '__rbacaudit_lacks to paths' -l to -x -d 'List only the path to TO, a second field of other lines'
+complete -c rbacaudit -n '__rbacaudit_lacks namespace paths' -s n -l namespace -x \
+    -d 'With --to, the namespace where a ClusterRole or * counts (default: the whole cluster)'
 complete -c rbacaudit -n '__rbacaudit_lacks before diff' -l before -x -k -a '(__fish_complete_suffix .json)' \
     -d 'JSON of kubectl get -o json or --raw as it was before the change'
 complete -c rbacaudit -n '__rbacaudit_lacks after diff' -l after -x -k -a '(__fish_complete_suffix .json)' \

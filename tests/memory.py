@@ -474,6 +474,9 @@ def answers():
     yield few_paths()
     yield Case('paths --groups --steps', ['paths', '--groups', 'ops,dev', '--steps', 'run,impersonate,bind,escalate', 'u:kim'],
                export(*WORKED, *TAKERS, *OWNERS), 0, PATHS)
+    for end, places in (('u:system:serviceaccount:prod:bot', (0, 2, 4)), ('Role/dev/taker', ())):
+        yield Case('paths --to ' + end, ['paths', '--groups', 'ops,dev', '--steps', 'run,impersonate,bind,escalate', '--to', end, 'u:kim'],
+                   export(*WORKED, *TAKERS, *OWNERS), int(not places), ''.join(PATHS.splitlines(True)[place] for place in places))
     yield Case('paths to nobody', ['paths', '--steps', 'webhooks,exec', 'g:dev'], export(*WORKED, *TAKERS), 0)
     yield few_ways()
     yield Case('who-can --indirect --steps', ['who-can', '--indirect', '--steps', 'run,impersonate,bind,escalate', '-n', 'dev', 'delete', 'po/a'],
@@ -539,6 +542,8 @@ def faults(room):
     yield Case('U8', ['paths', '--steps', 'run,', 'u:kim', missing], b'', 2,
                err='U8 steps are impersonate, token, run, exec, secrets, nodes, bind, escalate, certificates, webhooks, '
                    'apiservices, bootstrap, volumes, namespaces')
+    yield Case('U10', ['paths', '--to', 'kim', 'u:kim', missing], b'', 2,
+               err='U10 --to takes u:USER, g:GROUP, ClusterRole/NAME, Role/NS/NAME or *; -n NS needs one of the last three')
     yield Case('U9', ['who-can', '--indirect', '--why', 'get', 'pods', missing], b'', 2,
                err='U9 --indirect excludes --anywhere, --any-name, --every and --why; --steps needs --indirect')
     yield Case('a word that is not UTF-8', ['can-i', '--as', b'al\xffce', 'get', 'pods'], b'', 2, err='argument 3: not UTF-8')

@@ -3,8 +3,9 @@ asks for each pair of nodes and each step whether the one allows what the step a
 
 Exports are drawn mostly in the words of the table of steps, and in words that only nearly match: few rules, so that ways are
 long, with names that mean something else in another place. Each answer of the program has to be, line for line, the one of
-the definition. Then the laws are looked for in the program's answers alone: following a line's node before leads to the one
-asked about in as many lines; `paths` and `who-can --indirect` agree; and whoever has no line in `powers` comes to nobody.
+the definition; `paths --to` has the lines that tests/one_path.py follows, and status 1 without a line. Then the laws are looked
+for in the program's answers alone: following a line's node before leads to the one asked about in as many lines; `paths` and
+`who-can --indirect` agree; and whoever has no line in `powers` comes to nobody.
 
 First of all the same is asked about the example cluster, of which some numbers are known.
 
@@ -24,6 +25,7 @@ import subprocess
 import sys
 
 import escalation
+import one_path
 from common import PROGRAM, TOP, V1, export
 from escalation import STEPS, TABLE, Export, Request
 from meaning import account, groups_of, text_shown
@@ -232,6 +234,10 @@ def questions(draw, world, given):
     for _ in range(7):
         key, groups = who_asked(draw, world, given)
         yield ['paths', *groups, *steps, '--', key]
+        if draw.random() < 0.5:
+            asked = PARSER.parse_args(['paths', *groups, *steps, '--', key])
+            end = one_path.asked_end(draw, given, asked.steps, key, given_groups(asked))
+            yield ['paths', *groups, *end, *steps, '--', key]
     for _ in range(4):
         options, words = target_asked(draw, given)
         yield ['who-can', '--indirect', *options, *steps, '--', *words]
@@ -246,6 +252,8 @@ def parser():
     powers, paths, who_can = (commands.add_parser(name, allow_abbrev=False) for name in ('powers', 'paths', 'who-can'))
     paths.add_argument('--groups', default='')
     paths.add_argument('--group', action='append', default=[])
+    paths.add_argument('--to')
+    paths.add_argument('-n', '--namespace', default='')
     who_can.add_argument('--indirect', action='store_true', help='always so here')
     who_can.add_argument('-n', '--namespace', default='')
     who_can.add_argument('-A', '--all-namespaces', action='store_true')
@@ -282,7 +290,8 @@ def answer(asked, given):
     if asked.command == 'powers':
         return [*escalation.powers(given)]
     if asked.command == 'paths':
-        return [*escalation.paths(given, asked.who, given_groups(asked), asked.steps)]
+        lines = [*escalation.paths(given, asked.who, given_groups(asked), asked.steps)]
+        return lines if asked.to is None else one_path.lines_to(lines, asked.to, asked.namespace)
     return [*escalation.indirect(given, request_of(asked), asked.steps)]
 
 
@@ -360,7 +369,7 @@ def follow(lines, ends):
 def broken_law(answers, given):
     """What no answer to these questions may be, whatever the export is; or nothing."""
     powers = {tuple(map(text_shown, line.split('\t')[:2])) for asked, lines in answers if asked.command == 'powers' for line in lines}
-    ways = [(asked, [*map(read, lines)]) for asked, lines in answers if asked.command == 'paths']
+    ways = [(asked, [*map(read, lines)]) for asked, lines in answers if asked.command == 'paths' and asked.to is None]
     held = [(asked, [*map(read, lines)]) for asked, lines in answers if asked.command == 'who-can']
     for asked, lines in ways:
         if not follow(lines, [escalation.shown(escalation.node_of(asked.who))]):
@@ -402,7 +411,8 @@ def least(asked, lines, request, given):
 def told(words, given):
     """The lines of the program, or what else it says."""
     ended = subprocess.run([PROGRAM, *words], input=given, stdout=subprocess.PIPE, stderr=subprocess.PIPE, timeout=60)
-    if (ended.returncode, ended.stderr) != (0, b''):
+    nothing = not ended.stdout and any(word.startswith('--to') for word in words)
+    if (ended.returncode, ended.stderr) != (int(nothing), b''):
         raise ValueError('%s: status %d, %r' % (words, ended.returncode, ended.stderr))
     return ended.stdout.decode().split('\n')[:-1]
 
@@ -447,13 +457,16 @@ def example(itself):
 
 def count(counts, asked, lines):
     """What the answers have, to see that all of it is drawn."""
-    counts[asked.command] += 1
-    counts[asked.command + ' without a line'] += not lines
+    command = 'one path' if asked.command == 'paths' and asked.to is not None else asked.command
+    counts[command] += 1
+    counts[command + ' without a line'] += not lines
     for text in lines:
-        step = text.split('\t')[0] if asked.command == 'powers' else read(text).step
-        counts['%s by %s' % (asked.command, step)] += 1
-        if asked.command != 'powers':
-            counts['%s of %d steps' % (asked.command, min(read(text).number, 4))] += 1
+        step = text.split('\t')[0] if command == 'powers' else read(text).step
+        counts['%s by %s' % (command, step)] += 1
+        if command != 'powers':
+            counts['%s of %d steps' % (command, min(read(text).number, 4))] += 1
+    if command == 'one path' and lines:
+        counts['one path to ' + one_path.kind_of(asked.to)] += 1
     for kind in kinds_of(asked) if lines else ():
         counts['%s %s' % (asked.command, kind)] += 1
 
@@ -474,7 +487,8 @@ def too_few(counts, exports):
     wanted = ['%s by %s' % (command, step) for command in ('powers', 'paths', 'who-can') for step in STEPS
               if command == 'powers' or step not in escalation.POWERS_ALONE]
     wanted += ['%s of %d steps' % (command, number) for command in ('paths', 'who-can') for number in range(command == 'paths', 5)]
-    wanted += [command + ' without a line' for command in ('powers', 'paths', 'who-can')] + ['who-can ' + kind for kind in KINDS]
+    wanted += [command + ' without a line' for command in ('powers', 'paths', 'who-can', 'one path')] + ['who-can ' + kind for kind in KINDS]
+    wanted += ['one path to ' + kind for kind in one_path.KINDS] + ['one path of %d steps' % number for number in range(1, 5)]
     return [name for name in wanted if counts[name] < exports // 100]
 
 

@@ -133,6 +133,24 @@ def ways(it):
 
 
 @in_each_shell
+def one_path(it):
+    """The one path to somebody, a role or everything, and what is said if the namespace of its end isn't there."""
+    serve_idler(it)
+    it.run('export', 'prod')
+    developers = 'g:shop-developers'
+    to_idler = ['--to', IDLER, CI_KEY]
+    for place in ([], ['--export', 'prod']):
+        for line, out, err in (
+                (to_idler, BY_CI, ''), (['--steps=run', *to_idler], BY_CI, ''), (['--steps=exec', *to_idler], '', ''), (['--to', CI_KEY, CI_KEY], '', ''),
+                (['--to=*', '-n', 'shop-staging', developers], BY_OWNER % developers, ''), ([developers, '--to', '*', '-nshop-staging'], BY_OWNER % developers, ''),
+                (['--to', '*', developers], '', ''), (['--to', 'ClusterRole/view', developers, '--namespace', 'shop'], '', ''),
+                (['--to', '*', '-n', 'shop-stagin', developers], '', NO_SPACE % 'shop-stagin')):
+            it.expect('paths %s %s' % (line, place), ['paths', *place, *line], int(not out), out, err)
+    it.expect('one path as a table', ['paths', '--export', 'prod', *to_idler, '-o', 'wide'], 0, PATHS_WIDE)
+    it.expect('no path as a table', ['paths', '--export', 'prod', '--to', 'u:nobody', CI_KEY, '-o', 'wide'], 1)
+
+
+@in_each_shell
 def stale_paths(it):
     """A stale aggregate is reported where it leads to others in the cluster, or by another step: not where another rule gives the same."""
     line = '1\tu:system:serviceaccount:%s\t-\tu:kim\t-\tsecrets\tClusterRoleBinding/b\tClusterRole/a\tClusterRole/part\t1\t1\n'
@@ -144,6 +162,8 @@ def stale_paths(it):
         for place in ([], ['--export', 'prod']):
             it.expect('paths of a stale aggregate: %s, %s %s' % (written, gathered, place), ['paths', *place, 'u:kim'], 0, out, err)
             it.expect('by a step that it does not give: %s, %s %s' % (written, gathered, place), ['paths', '--steps', 'run', *place, 'u:kim'], 0)
+            it.expect('the path to one of them: %s, %s %s' % (written, gathered, place), ['paths', *place, '--to', CI_KEY, 'u:kim'], int(not out),
+                      out and line % 'shop:ci', err)
     impersonates = stale_with('get', 'list')
     impersonates['items'][0]['rules'].append({'verbs': ['impersonate'], 'apiGroups': [''], 'resources': ['serviceaccounts']})
     it.serve({'cluster': impersonates, 'namespaced': of_kinds([])})
@@ -164,4 +184,4 @@ def stale_ways(it):
                       UNLISTED % 'type secrets' + MOUNTS % ('secrets', '--indirect -A ') + err)
 
 
-CHECKS = [paths, ways, stale_paths, stale_ways]
+CHECKS = [paths, one_path, ways, stale_paths, stale_ways]

@@ -421,7 +421,9 @@ def words(it):
                        (['paths'], '<WHO>'), (['paths', 'kim'], 'U5 bad principal'), (['paths', 'g:dev', '--group', 'x'], 'U5 bad principal'),
                        (['paths', '--steps', 'walk', 'u:kim'], 'rbacaudit: U8 steps are %s\n' % ', '.join(STEPS)), (['paths', '--steps=', 'u:kim'], 'U8 '),
                        (['paths', 'u:kim', '--steps', 'run,', 'a.json'], 'U8 '), (['paths', 'u:kim', '--steps'], '--steps'),
-                       (['paths', '-n', 'shop', 'u:kim'], '-n'), (['paths', '-A', 'u:kim'], '-A'), (['paths', '--why', 'u:kim'], '--why'),
+                       (['paths', '-n', 'shop', 'u:kim'], 'U10 --to takes u:USER'), (['paths', '--to', 'kim', 'u:kim'], 'U10 '), (['paths', 'u:kim', '--to'], '--to'),
+                       (['paths', '--to', 'Role/shop/a', '-nprod', 'u:kim'], 'U10 '), (['rules', '--to', '*', 'u:kim'], '--to'),
+                       (['paths', '-A', 'u:kim'], '-A'), (['paths', '--why', 'u:kim'], '--why'),
                        (['paths', '-q', 'u:kim'], '-q'), (['paths', '--export', 'x', 'u:kim'], 'there is no folder x'),
                        *((['who-can', '--indirect', *more, 'get', 'pods'], said) for more, said in (
                            (['--why'], 'U9 '), (['--every'], 'U9 '), (['--any-name'], 'U9 '), (['--anywhere'], 'U9 '), (['--steps', 'run,'], 'U8 '),

@@ -47,6 +47,18 @@ STEPS = ('impersonate', 'token', 'run', 'exec', 'secrets', 'nodes', 'bind', 'esc
 BAD_STEP = b'rbacaudit: U8 steps are impersonate, token, run, exec, secrets, nodes, bind, escalate, certificates, webhooks, ' \
            b'apiservices, bootstrap, volumes, namespaces\n'
 BAD_INDIRECT = b'rbacaudit: U9 --indirect excludes --anywhere, --any-name, --every and --why; --steps needs --indirect\n'
+BAD_END = b'rbacaudit: U10 --to takes u:USER, g:GROUP, ClusterRole/NAME, Role/NS/NAME or *; -n NS needs one of the last three\n'
+# What no line of `paths` has as its second field, and a namespace that nothing is asked for in.
+NO_ENDS = [*(['--to=' + to] for to in (
+    '', 'kim', 'u', 'u:', 'g:', 'U:kim', 'x:kim', ' u:kim', ':kim', 'admin', 'ClusterRole', 'ClusterRole/', 'clusterrole/a', 'ClusterRoles/a', ' ClusterRole/a',
+    'Role', 'Role/', 'Role/a', 'Role/a/', 'Role//a', 'Role//', 'role/dev/a', 'RoleBinding/dev/a', 'a/b', '**', ' *', '* ', '*/dev', '-', '\\x2a')),
+    ['-n', 'dev'], ['--namespace=dev', '--steps', 'run'], ['--to', 'u:kim', '-n', 'dev'], ['-n', 'dev', '--to', 'g:ops'], ['--to', 'u:*', '-n', 'dev'],
+    ['--to', 'Role/dev/a', '-n', 'prod'], ['--to', 'Role/dev/a', '-n', 'de'], ['--to', 'Role/dev/a', '-n', 'dev/a'], ['--to', 'Role/dev/dev', '-n', 'a'],
+    ['--to', 'Role/a', '-n', 'a'], ['--to=', '-n', 'dev']]
+# What can be one, though none is.
+ENDS = [*(['--to', to] for to in ('u:kim', 'g:kim', 'u:u:', 'g: ', 'u:/', 'ClusterRole/a', 'ClusterRole//', 'ClusterRole/a/b', 'Role/a/b', 'Role/a/b/c', 'Role/a//', '*')),
+        ['--to=*', '-n', 'dev'], ['--to', 'ClusterRole/a', '--namespace', '*'], ['--to', 'Role/dev/a', '-n', 'dev'], ['--to', 'Role/dev/a/b', '-n', 'dev'],
+        *(['--to', to, '--namespace='] for to in ('u:kim', 'g:kim', 'ClusterRole/a', 'Role/a/b', '*')), ['--to', '*', '--steps', 'run']]
 # Options of `who-can` that don't go together.
 NO_WAYS = [*(['--indirect', *options] for count in range(1, 5) for options in itertools.combinations(['--anywhere', '--any-name', '--every', '--why'], count)),
            ['--why', '--indirect'], ['-A', '--anywhere', '--indirect'], ['--indirect', '--steps', 'run', '--every'], ['--steps', 'run'],
@@ -111,6 +123,9 @@ def streams():
     expect('rules of nobody have status 0', ['rules', 'u:kim'], 0, given=GRANTED)
     for command in ('rules', 'paths'):
         expect('groups of a group that are empty: %s' % command, [command, '--groups=', '--group=', '--group=', 'g:dev'], 0, given=GRANTED)
+    expect('a namespace that is empty, and no end', ['paths', '--namespace=', 'u:kim'], 0, given=GRANTED)
+    for words in ENDS:
+        expect('no path has status 1: %s' % ' '.join(words), ['paths', *words, 'u:kim'], 1, given=GRANTED)
     expect('a subresource of a URL has status 2',
            ['can-i', '--as', 'alice', '--subresource', 'log', 'get', '/healthz'], 2,
            err=b'rbacaudit: U3 subresource with a URL\n')
@@ -147,6 +162,10 @@ def streams():
             expect('no principal before a missing file: %s' % command, [command, 'kim', missing], 2, err=b'rbacaudit: U5 bad principal\n')
         expect('no principal before no step', ['paths', '--steps', 'runs', 'kim', missing], 2, err=b'rbacaudit: U5 bad principal\n')
         expect('no step before a missing file', ['paths', '--steps', 'runs', 'u:kim', missing], 2, err=BAD_STEP)
+        for words in NO_ENDS:
+            expect('no end before a missing file: %s' % ' '.join(words), ['paths', *words, 'u:kim', missing], 2, err=BAD_END)
+        expect('no step before no end', ['paths', '--steps', 'runs', '--to', 'kim', 'u:kim', missing], 2, err=BAD_STEP)
+        expect('no principal before no end', ['paths', '--to', 'kim', 'kim', missing], 2, err=b'rbacaudit: U5 bad principal\n')
         expect('rules of two files', ['rules', 'u:alice', roles, bindings], 0,
                b'RoleBinding/default/b\tRole/default/r\tRole/default/r\t1\t1\t[get]\t[-]\t[pods]\t[]\t[]\n')
         expect('WHO first, and then files', ['rules', roles, 'u:alice'], 2, err=b'rbacaudit: U5 bad principal\n')
@@ -208,7 +227,8 @@ def help_and_usage():
         checked('help names %s' % option.decode(), option in run(['matrix', '--help']).stdout)
     for said in (b'--groups <A,B>', b'--group <G>', b'-n, --namespace <NS>', b'-A, --all-namespaces', b'ten fields, joined by tabs', b'[] is the empty list'):
         checked('help of rules says "%s"' % said.decode(), said in run(['rules', '--help']).stdout)
-    for said in (b'--groups <A,B>', b'--group <G>', b'--steps <STEPS>', b'WHO', b'eleven fields, joined by tabs', b'and so on back to WHO'):
+    for said in (b'--groups <A,B>', b'--group <G>', b'--steps <STEPS>', b'--to <TO>', b'-n, --namespace <NS>', b'WHO', b'eleven fields, joined by tabs',
+                 b'and so on back to WHO'):
         checked('help of paths says "%s"' % said.decode(), said in run(['paths', '--help']).stdout)
     for said in (b'[FILE]', b'matrix over the same files and this document lists the same rows'):
         checked('help of universe says "%s"' % said.decode(), said in run(['universe', '--help']).stdout)
@@ -252,9 +272,11 @@ def help_and_usage():
                   ['universe', '--once'], ['universe', '--every'], ['universe', '--limit', '1'], ['universe', '--after', 'MQ'], ['universe', '-n', 'dev'],
                   ['powers', '-n', 'dev'], ['powers', '-A'], ['powers', '--as', 'a'], ['powers', '--every'], ['powers', '--why'], ['powers', '--only', 'run'],
                   ['powers', '--limit', '1'], ['power'], ['powers', '--steps', 'run'], ['rules', '--steps', 'run', 'u:a'],
-                  ['paths'], ['path', 'u:a'], ['paths', '-n', 'dev', 'u:a'], ['paths', '-A', 'u:a'], ['paths', '--as', 'a', 'u:a'], ['paths', '--why', 'u:a'],
+                  ['paths'], ['path', 'u:a'], ['paths', '-A', 'u:a'], ['paths', '--as', 'a', 'u:a'], ['paths', '--why', 'u:a'],
                   ['paths', '--every', 'u:a'], ['paths', '--limit', '1', 'u:a'], ['paths', '--only', 'L1', 'u:a'], ['paths', '--step', 'run', 'u:a'],
-                  ['paths', '--steps', 'run', '--steps', 'exec', 'u:a'], ['paths', '--steps', '-run', 'u:a'],
+                  ['paths', '--steps', 'run', '--steps', 'exec', 'u:a'], ['paths', '--steps', '-run', 'u:a'], ['paths', '--to', '*', '--to', '*', 'u:a'],
+                  ['paths', '--to', '-x', 'u:a'], ['paths', '--to', '*', '-n', 'dev', '-n', 'dev', 'u:a'], ['rules', '--to', '*', 'u:a'], ['powers', '--to', '*'],
+                  ['who-can', '--indirect', '--to', '*', 'get', 'pods'], ['paths', '--to', '*', '-A', 'u:a'], ['paths', '--until', '*', 'u:a'],
                   ['paths', '--groups', 'a', '--groups', 'b', 'u:a'], ['paths', '--groups', '-a', 'u:a'], ['paths', '--group', '-a', 'u:a'],
                   ['who-can', '--indirect'], ['who-can', '--indirect', 'get'], ['who-can', '--indirect', '--indirect', 'get', 'pods'],
                   ['who-can', '--indirect=x', 'get', 'pods'], ['who-can', '--indirect', '--as', 'a', 'get', 'pods'],
@@ -274,6 +296,7 @@ def help_and_usage():
     for words, option in ((['diff', '--before', '--after', 'a'], b'--before <FILE>'), (['diff', '--after', 'a', '--before'], b'--before <FILE>'),
                           (['diff', '--before', 'a', '--with'], b'--with <FILE>'), (['diff', '--without', '--before', 'a'], b'--without <FILE>'),
                           (['lint', '--only'], b'--only <CODES>'), (['paths', 'u:a', '--steps'], b'--steps <STEPS>'),
+                          (['paths', 'u:a', '--to'], b'--to <TO>'), (['paths', '--to', '*', 'u:a', '-n'], b'--namespace <NS>'),
                           (['who-can', '--indirect', 'get', 'pods', '--steps'], b'--steps <STEPS>')):
         ended = run(words)
         checked('refused: %s' % ' '.join(words), ended.returncode == 2 and not ended.stdout and option in ended.stderr, repr(ended))

@@ -39,7 +39,7 @@ def offers(command: str, before: list[str], typed: str) -> Iterator[str]:
 
 def values(command: str, option: Option) -> Iterator[str]:
     """What may be the value of an option. (page writes --output FILE)"""
-    if option.long in OF_FILES or (option.long, option.value) == ('--output', 'FILE'):
+    if (option.long in OF_FILES and option.value != 'TO') or (option.long, option.value) == ('--output', 'FILE'):
         yield FILES
     elif option.long == '--export':
         yield FOLDERS

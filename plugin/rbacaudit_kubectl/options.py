@@ -63,8 +63,8 @@ PASSED = {option.long: option for option in (
     Option('--as', 'USER', 'asker'), Option('--groups', 'A,B'), Option('--group', 'G', repeats=True), Option('-n,--namespace', 'NS', 'namespace'),
     Option('-A,--all-namespaces', '', 'everywhere'), Option('--in-namespace', '', 'in_namespace'), Option('--subresource', 'S', 'subresource'),
     Option('-q,--quiet', '', 'quiet'), Option('--why', '', 'why'), Option('--why-not', '', 'why_not'), Option('--anywhere', '', 'anywhere'),
-    Option('--any-name'), Option('--every'), Option('--indirect', '', 'indirect'), Option('--steps', 'STEPS'), Option('--once', '', 'once'),
-    Option('--after', 'TOKEN'), Option('--limit', 'N'), Option('--only', 'CODES', 'codes'), Option('--skip-system'))}
+    Option('--any-name'), Option('--every'), Option('--indirect', '', 'indirect'), Option('--steps', 'STEPS'), Option('--to', 'TO'),
+    Option('--once', '', 'once'), Option('--after', 'TOKEN'), Option('--limit', 'N'), Option('--only', 'CODES', 'codes'), Option('--skip-system'))}
 SCOPE = '--namespace --all-namespaces --in-namespace --subresource '
 
 
@@ -92,7 +92,8 @@ COMMANDS: dict[str, Command] = {
                       '--groups --group --namespace --all-namespaces'),
     'matrix': Command('[FILE]..', 'everything that anyone may do', 'FILE', '--every --once --after --limit'),
     'powers': Command('[FILE]..', 'who can act as others or gain permissions', 'FILE'),
-    'paths': Command('WHO', 'whom and what u:NAME or g:NAME can take over, step by step', 'WHO FILE', '--groups --group --steps'),
+    'paths': Command('[--to TO] WHO', 'whom and what u:NAME or g:NAME can take over, step by step', 'WHO FILE',
+                     '--groups --group --steps --to --namespace'),
     'lint': Command('[PATH]..', 'what looks wrong with roles and bindings: status 1 if any', 'FILE', '--only --skip-system',
                     OWN + SHOWN + (BARE,)),
     'diff': Command('--export OLD --export NEW', 'permissions gained and lost: status 1 if any (diff --help)', own=OF_DIFF + OWN + SHOWN),

@@ -97,8 +97,9 @@ def read_question(command: str, words: list[str]) -> tuple[Options, Question]:
 
 def choose_namespace(session: Session, options: Options, question: Question, namespace: str) -> None:
     """The namespace that a question is about, as far as the words say it. Without -n it is that of the context, as for kubectl; but rules
-    are then those of all bindings. A namespace's own object is asked about in it, as a server does, unless the words say where."""
-    if question.command == 'rules':
+    are then those of all bindings, and TO of paths is in the whole cluster. A namespace's own object is asked about in it, as a server does,
+    unless the words say where."""
+    if question.command in ('rules', 'paths'):
         question.asked_in = '' if question.everywhere else question.namespace
     elif question.type and not question.everywhere and not question.anywhere:
         question.asked_in = question.namespace or 'default'

@@ -371,7 +371,7 @@ def remark_on_stale(asking: Asking, stale: str, line: list[str], files: list[str
     differs = ''
     if command == 'can-i' and {answer.status, written.status} == {0, 1}:
         differs = 'answers no' if written.status else 'answers yes'
-    elif command in DIFFERS and not answer.status and not written.status and telling(answer) != telling(written):
+    elif command in DIFFERS and {answer.status, written.status} <= {0, 1} and telling(answer) != telling(written):
         differs = 'has other ' + ('paths' if asking.question.indirect else DIFFERS[command])
     if differs:
         session.report('the cluster %s now, because of stale aggregates (L6 of lint): %s' % (differs, stale))

@@ -8,6 +8,7 @@ pub mod OneAnswer
 pub mod OneHolderLines
 pub mod OneMatrixText
 pub mod OneMeant
+pub mod OnePathListed
 pub mod OneReason
 pub mod OneRun
 pub mod PageLemmas

@@ -27,6 +27,8 @@ use Rattle.rbac_index.proofs.ListedLemmas.{one_listed}
 use Rattle.rbac_manifest.specs.Load.{LoadedView}
 use Rattle.rbac_lint.proofs.OneLines.{one_wanted}
 use Rattle.rbac_diff.proofs.OneChanges.{one_changes}
+use Rattle.rbac_paths.specs.Nodes.{Somebody}
+use Rattle.rbac_paths.specs.OnePath.{IsPathTo}
 use Rattle.rbac_paths.specs.Paths.{ArePathsOf, PathView}
 use Rattle.rbac_paths.specs.Powers.{ArePowers, PowerView}
 use Rattle.rbac_paths.specs.Access.{AccessView}
@@ -38,8 +40,9 @@ use Rattle.rbac_question.specs.declared.command.Action.TheVariants.{CanI, WhoCan
 use Rattle.rbac_question.specs.declared.command.HolderOptions.{HolderOptions}
 use Rattle.rbac_question.specs.declared.command.MatrixOptions.{MatrixOptions}
 use Rattle.rbac_question.specs.declared.command.Question.{Question}
+use Rattle.rbac_question.specs.declared.path_end.PathEnd.{PathEnd}
 use Rattle.rbac_cli.specs.HolderLines.{AreHolderLines, joined_lines}
-use Rattle.rbac_cli.specs.Out.{Answers, IsAllowed, IsDenied, rules_text, findings_text, findings_status, wanted_meant, powers_text, paths_text, ways_text, changes_text, changes_status, line_unless}
+use Rattle.rbac_cli.specs.Out.{Answers, AreListed, IsAllowed, IsDenied, rules_text, findings_text, findings_status, wanted_meant, powers_text, paths_status, paths_text, ways_text, changes_text, changes_status, line_unless}
 use Rattle.rbac_cli.specs.MatrixPage.{AreRows, AreListedRows}
 use Rattle.rbac_cli.specs.Meant.{IsScopeMeant, access_meant, requested_meant}
 use Rattle.rbac_cli.specs.declared.exports.Exports.{Exports}
@@ -263,7 +266,16 @@ abbrev pub WaysOne : Type 0
 WaysOne = (p : PolicyView) (principals : List Who) (steps : List Step) (asked : AccessView) (xs others : List WayView) → AreWaysTo p principals steps asked xs
     → AreWaysTo p principals steps asked others → xs ≡ others
 
-module _ (powers_one : PowersOne) (paths_one : PathsOne) (ways_one : WaysOne) where
+abbrev pub PathOne : Type 0
+PathOne = (p : PolicyView) (principals : List Who) (steps : List Step) (who : Who) (to : Text) (scope : Option Text) (xs chain other : List PathView)
+    → ArePathsOf p principals steps who xs → IsPathTo (Somebody who) to scope xs chain → IsPathTo (Somebody who) to scope xs other → chain ≡ other
+
+module _ (powers_one : PowersOne) (paths_one : PathsOne) (path_one : PathOne) (ways_one : WaysOne) where
+  one_listing : (l : LoadedView) (who : Who) (steps : List Step) (to : Option PathEnd) (xs listed others : List PathView) → ArePathsOf l.policy l.principals steps who xs
+      → AreListed (Somebody who) to xs listed → AreListed (Somebody who) to xs others → listed ≡ others
+  one_listing l who steps None xs listed others are e f = e ∙ sym f
+  one_listing l who steps (Some to) xs listed others are is too = path_one l.policy l.principals steps who to.what to.namespace xs listed others are is too
+
   pub one_answer : (e : Exports) (action : Action) (text other : List ℕ) (status ending : Status) → Answers e action text status → Answers e action other ending
       → (text ≡ other) × (status ≡ ending)
   one_answer (Single l) (CanI who options q) text other status ending (inl (a, (r, is, e), s)) (inl (b, (o, are, f), t)) = (
@@ -293,8 +305,10 @@ module _ (powers_one : PowersOne) (paths_one : PathsOne) (ways_one : WaysOne) wh
   one_answer (Single l) Universe text other status ending (is, few, s) (are, others, t) = (one_document l.lists text other is are, s ∙ sym t)
   one_answer (Single l) Powers text other status ending (xs, are, e, s) (ys, those, f, t) =
       (e ∙ ap powers_text (powers_one l.policy xs ys are those) ∙ sym f, s ∙ sym t)
-  one_answer (Single l) (Paths who steps) text other status ending (xs, are, e, s) (ys, those, f, t) =
-      (e ∙ ap paths_text (paths_one l.policy l.principals (vec_items steps) who xs ys are those) ∙ sym f, s ∙ sym t)
+  one_answer (Single l) (Paths who steps to) text other status ending (xs, listed, are, lists, e, s) (ys, others, those, list, f, t) =
+      let same = paths_one l.policy l.principals (vec_items steps) who xs ys are those in
+      let one = one_listing l who (vec_items steps) to ys listed others those (subst (λ (zs : List PathView). AreListed (Somebody who) to zs listed) same lists) list in
+      (e ∙ ap paths_text one ∙ sym f, s ∙ ap (paths_status to) one ∙ sym t)
   one_answer (Single l) (Diff n change) text other status ending a b = absurd a
   one_answer (Pair before after) (Diff n change) text other status ending (xs, are, e, s) (ys, those, f, t) =
       let one = one_changes before after xs ys are those in
@@ -307,4 +321,4 @@ module _ (powers_one : PowersOne) (paths_one : PathsOne) (ways_one : WaysOne) wh
   one_answer (Pair before after) Universe text other status ending a b = absurd a
   one_answer (Pair before after) (Lint only skip) text other status ending a b = absurd a
   one_answer (Pair before after) Powers text other status ending a b = absurd a
-  one_answer (Pair before after) (Paths who steps) text other status ending a b = absurd a
+  one_answer (Pair before after) (Paths who steps to) text other status ending a b = absurd a

@@ -24,7 +24,7 @@ use Rattle.rbac_cli.specs.Ends.{Ends, LacksUniverse, IsUnstopped}
 use Rattle.rbac_cli.specs.declared.outcome.Status.{Status}
 use Rattle.rbac_cli.specs.declared.outcome.RunFault.{RunFault}
 use Rattle.rbac_cli.specs.declared.outcome.RunFault.TheVariants.{Load, Universe, Memory, Write}
-use Rattle.rbac_cli.proofs.OneAnswer.{PathsOne, PowersOne, WaysOne, one_answer}
+use Rattle.rbac_cli.proofs.OneAnswer.{PathOne, PathsOne, PowersOne, WaysOne, one_answer}
 
 -- what is known of loading and of universes
 abbrev pub LoadsOne : Type 0
@@ -71,7 +71,7 @@ lacks_for_one (Single l) (Rules who scope) f g a b = absurd a
 lacks_for_one (Single l) action.Universe f g a b = a.0 ∙ sym b.0
 lacks_for_one (Single l) (Lint only skip) f g a b = absurd a
 lacks_for_one (Single l) Powers f g a b = absurd a
-lacks_for_one (Single l) (Paths who steps) f g a b = absurd a
+lacks_for_one (Single l) (Paths who steps to) f g a b = absurd a
 lacks_for_one (Single l) (Diff n change) f g a b = absurd a
 lacks_for_one (Single l) (Matrix options after limit) f g a b = same_universe_fault l.lists f g a.0 a.1 b.0 b.1
 lacks_for_one (Pair before after) action f g a b = absurd a
@@ -79,7 +79,7 @@ lacks_for_one (Pair before after) action f g a b = absurd a
 none_and_some : {T : Type 0} (o : Option T) (x : T) → o ≡ None → o ≡ Some x → ⊥
 none_and_some o x none some = cc
 
-module _ (loads_one : LoadsOne) (no_fault : HasNoFault) (one_fault : HasOneFault) (resolves_one : ResolvesOne) (few_enough : HasNoTooMany) (no_universe_fault : HasNoUniverseFault) (powers_one : PowersOne) (paths_one : PathsOne) (ways_one : WaysOne) where
+module _ (loads_one : LoadsOne) (no_fault : HasNoFault) (one_fault : HasOneFault) (resolves_one : ResolvesOne) (few_enough : HasNoTooMany) (no_universe_fault : HasNoUniverseFault) (powers_one : PowersOne) (paths_one : PathsOne) (path_one : PathOne) (ways_one : WaysOne) where
   -- what has an answer lacks no universe
   not_lacking : (e : Exports) (action : Action) (text : List ℕ) (status : Status) (f : UniverseFault) → Answers e action text status → LacksUniverse e action f → ⊥
   not_lacking (Single l) (CanI who options q) text status f a b = b
@@ -89,7 +89,7 @@ module _ (loads_one : LoadsOne) (no_fault : HasNoFault) (one_fault : HasOneFault
   not_lacking (Single l) action.Universe text status f (is, few, zero) b = few b.1
   not_lacking (Single l) (Lint only skip) text status f a b = b
   not_lacking (Single l) Powers text status f a b = b
-  not_lacking (Single l) (Paths who steps) text status f a b = b
+  not_lacking (Single l) (Paths who steps to) text status f a b = b
   not_lacking (Single l) (Diff n change) text status f a b = b
   not_lacking (Single l) (Matrix options after limit) text status f (u, rows, is, listed, e, zero) b = no_universe_fault l.lists u f is b.1 b.0
   not_lacking (Pair before after) action text status f a b = b
@@ -122,7 +122,7 @@ module _ (loads_one : LoadsOne) (no_fault : HasNoFault) (one_fault : HasOneFault
   one_loaded action.Universe inputs (Single l) (Single m) a b = one_single inputs l m a b
   one_loaded (Lint only skip) inputs (Single l) (Single m) a b = one_single inputs l m a b
   one_loaded Powers inputs (Single l) (Single m) a b = one_single inputs l m a b
-  one_loaded (Paths who steps) inputs (Single l) (Single m) a b = one_single inputs l m a b
+  one_loaded (Paths who steps to) inputs (Single l) (Single m) a b = one_single inputs l m a b
   one_loaded (CanI who options q) inputs (Pair x y) d a b = absurd a
   one_loaded (WhoCan options q) inputs (Pair x y) d a b = absurd a
   one_loaded (WaysTo steps q) inputs (Pair x y) d a b = absurd a
@@ -131,7 +131,7 @@ module _ (loads_one : LoadsOne) (no_fault : HasNoFault) (one_fault : HasOneFault
   one_loaded action.Universe inputs (Pair x y) d a b = absurd a
   one_loaded (Lint only skip) inputs (Pair x y) d a b = absurd a
   one_loaded Powers inputs (Pair x y) d a b = absurd a
-  one_loaded (Paths who steps) inputs (Pair x y) d a b = absurd a
+  one_loaded (Paths who steps to) inputs (Pair x y) d a b = absurd a
   one_loaded (CanI who options q) inputs (Single l) (Pair x y) a b = absurd b
   one_loaded (WhoCan options q) inputs (Single l) (Pair x y) a b = absurd b
   one_loaded (WaysTo steps q) inputs (Single l) (Pair x y) a b = absurd b
@@ -140,7 +140,7 @@ module _ (loads_one : LoadsOne) (no_fault : HasNoFault) (one_fault : HasOneFault
   one_loaded action.Universe inputs (Single l) (Pair x y) a b = absurd b
   one_loaded (Lint only skip) inputs (Single l) (Pair x y) a b = absurd b
   one_loaded Powers inputs (Single l) (Pair x y) a b = absurd b
-  one_loaded (Paths who steps) inputs (Single l) (Pair x y) a b = absurd b
+  one_loaded (Paths who steps to) inputs (Single l) (Pair x y) a b = absurd b
 
   not_refused : (action : Action) (inputs : List (List ℕ)) (e : Exports) (f : LoadFault) → AreLoaded action inputs e → AreInputsRefused action inputs f → ⊥
   not_refused (Diff n change) inputs (Pair x y) f a (inl h) = side_not_refused _ _ x f a.0 h
@@ -154,7 +154,7 @@ module _ (loads_one : LoadsOne) (no_fault : HasNoFault) (one_fault : HasOneFault
   not_refused action.Universe inputs (Single l) f a h = no_fault inputs l f a h
   not_refused (Lint only skip) inputs (Single l) f a h = no_fault inputs l f a h
   not_refused Powers inputs (Single l) f a h = no_fault inputs l f a h
-  not_refused (Paths who steps) inputs (Single l) f a h = no_fault inputs l f a h
+  not_refused (Paths who steps to) inputs (Single l) f a h = no_fault inputs l f a h
   not_refused (CanI who options q) inputs (Pair x y) f a h = a
   not_refused (WhoCan options q) inputs (Pair x y) f a h = a
   not_refused (WaysTo steps q) inputs (Pair x y) f a h = a
@@ -163,7 +163,7 @@ module _ (loads_one : LoadsOne) (no_fault : HasNoFault) (one_fault : HasOneFault
   not_refused action.Universe inputs (Pair x y) f a h = a
   not_refused (Lint only skip) inputs (Pair x y) f a h = a
   not_refused Powers inputs (Pair x y) f a h = a
-  not_refused (Paths who steps) inputs (Pair x y) f a h = a
+  not_refused (Paths who steps to) inputs (Pair x y) f a h = a
 
   one_refusal : (action : Action) (inputs : List (List ℕ)) (f g : LoadFault) → AreInputsRefused action inputs f → AreInputsRefused action inputs g → f ≡ g
   one_refusal (Diff n change) inputs f g (inl a) (inl b) = one_side_refusal _ _ f g a b
@@ -179,14 +179,14 @@ module _ (loads_one : LoadsOne) (no_fault : HasNoFault) (one_fault : HasOneFault
   one_refusal action.Universe inputs f g a b = one_fault inputs f g a b
   one_refusal (Lint only skip) inputs f g a b = one_fault inputs f g a b
   one_refusal Powers inputs f g a b = one_fault inputs f g a b
-  one_refusal (Paths who steps) inputs f g a b = one_fault inputs f g a b
+  one_refusal (Paths who steps to) inputs f g a b = one_fault inputs f g a b
 
   module _ (command : Command) (inputs : List (List ℕ)) where
     answered : (took others : List ℕ → Type 0) (status : Status) (other : Result Status RunFault) → IsUnstopped other
         → Ends took command inputs (Ok status) → Ends others command inputs other → EndAlike took others (Ok status) other
     answered took others status (Ok ending) s (l, is, (text, a, t)) (m, are, (more, b, u)) =
         let here = subst (λ (x : Exports). Answers x command.action text status) (one_loaded command.action inputs l m is are) a in
-        let same = one_answer powers_one paths_one ways_one m command.action text more status ending here b in
+        let same = one_answer powers_one paths_one path_one ways_one m command.action text more status ending here b in
         (ap Ok same.1, (text, t, subst others (sym same.0) u))
     answered took others status (Err (Load f)) s (l, is, told) (has, t) = absurd (not_refused command.action inputs l f is has)
     answered took others status (Err (Universe f)) s (l, is, (text, a, t)) ((m, are, lacks), u) =

@@ -1,6 +1,6 @@
 -- What a command writes, and its status.
 use Rattle.std.specs.Prelude.{◌≡◌, ◌↔◌, ℕ, ◌⊎◌, Bool, true, false, List, [], ◌∷◌, ◌++◌, codes}
-use Rattle.std.specs.Prelude.{Option, option_map, vec_items}
+use Rattle.std.specs.Prelude.{Option, None, Some, option_map, vec_items}
 use Rattle.std.specs.List.{flat_map}
 use Rattle.rbac_terms.specs.Text.{Text}
 use Rattle.rbac_terms.specs.Targets.{What}
@@ -21,6 +21,8 @@ use Rattle.rbac_lint.specs.declared.finding.Finding.{Finding}
 use Rattle.rbac_lint.specs.Wanted.{WantedView, AreWanted}
 use Rattle.rbac_paths.specs.Powers.{ArePowers, PowerView}
 use Rattle.rbac_paths.specs.Lines.{power_text}
+use Rattle.rbac_paths.specs.Nodes.{NodeView, Somebody}
+use Rattle.rbac_paths.specs.OnePath.{IsPathTo}
 use Rattle.rbac_paths.specs.Paths.{ArePathsOf, PathView}
 use Rattle.rbac_paths.specs.PathLines.{path_text}
 use Rattle.rbac_paths.specs.WaysTo.{AreWaysTo, WayView}
@@ -32,6 +34,7 @@ use Rattle.rbac_question.specs.declared.command.Action.TheVariants.{CanI, WhoCan
 use Rattle.rbac_question.specs.declared.command.Action.TheVariants.{Rules, Matrix, Universe, Lint}
 use Rattle.rbac_question.specs.declared.command.Action.TheVariants.{Powers, Paths, Diff}
 use Rattle.rbac_question.specs.declared.command.Question.{Question}
+use Rattle.rbac_question.specs.declared.path_end.PathEnd.{PathEnd}
 use Rattle.rbac_rules.specs.Effective.{RuleView, AreEffective}
 use Rattle.rbac_index.specs.WhoCan.{AreListedHolders}
 use Rattle.rbac_near.specs.Near.{AreNear, RequestView}
@@ -138,6 +141,18 @@ powers_text xs = flat_map power_text xs
 abbrev pub paths_text : List PathView → Text
 paths_text xs = flat_map path_text xs
 
+-- which of the paths from the start are listed: all; with `--to`, those that lead to TO one after
+-- the other (own)
+abbrev pub AreListed : NodeView → Option PathEnd → List PathView → List PathView → Type 0
+AreListed start None xs listed = listed ≡ xs
+AreListed start (Some to) xs listed = IsPathTo start to.what to.namespace xs listed
+
+-- the status of `paths`: with `--to` 1 if no path leads to TO, otherwise 0 (own)
+abbrev pub paths_status : Option PathEnd → List PathView → Status
+paths_status None xs = Zero
+paths_status (Some to) [] = One
+paths_status (Some to) (x ∷ xs) = Zero
+
 -- a line for each way, in order
 abbrev pub ways_text : List WayView → Text
 ways_text xs = flat_map way_text xs
@@ -159,9 +174,10 @@ changes_status (x ∷ xs) = One
 -- the Universe document of the lists, unless they have more resources than a universe may have
 -- targets, and 0 (own); `lint` a line for each finding that is asked for, and 1 if there is one,
 -- otherwise 0 (own); `powers` a line for each step that a user or a group can take, and 0 (own);
--- `paths` a line for each node that the principal comes to by the given steps, and 0 (own); `diff`
--- a line for each change from the first policy to the second, and 1 if there is one, otherwise 0
--- (own)
+-- `paths` a line for each node that the principal comes to by the given steps, and 0, or with
+-- `--to` a line for each step of the one path to TO, and 0, or nothing and 1 if no path leads there
+-- (own); `diff` a line for each change from the first policy to the second, and 1 if there is one,
+-- otherwise 0 (own)
 abbrev pub Answers : Exports → Action → List ℕ → Status → Type 0
 Answers (Single l) (CanI who options q) text status =
     (IsAllowed l.policy.held l.catalogue.entries who q
@@ -203,9 +219,10 @@ Answers (Single l) (Lint only skip_system) text status =
     × (text ≡ findings_text found) × (status ≡ findings_status found)
 Answers (Single l) Powers text status =
     (xs : List PowerView) × ArePowers l.policy xs × (text ≡ powers_text xs) × (status ≡ Zero)
-Answers (Single l) (Paths who steps) text status =
-    (xs : List PathView) × ArePathsOf l.policy l.principals (vec_items steps) who xs
-    × (text ≡ paths_text xs) × (status ≡ Zero)
+Answers (Single l) (Paths who steps to) text status =
+    (xs listed : List PathView) × ArePathsOf l.policy l.principals (vec_items steps) who xs
+    × AreListed (Somebody who) to xs listed
+    × (text ≡ paths_text listed) × (status ≡ paths_status to listed)
 Answers (Pair before after) (Diff n change) text status =
     (xs : List ChangeView) × AreChanges before after xs
     × (text ≡ changes_text xs) × (status ≡ changes_status xs)

@@ -66,9 +66,11 @@ pub(crate) fn print_answer<W: Write + Drop>(
             print_findings(alloc, export, only, *skip_system, output)
         }
         Action::Powers => print_powers(alloc, export, output),
-        Action::Paths { principal, steps } => {
-            print_paths(alloc, export, principal, steps.as_slice(), output)
-        }
+        Action::Paths {
+            principal,
+            steps,
+            to,
+        } => print_paths(alloc, export, principal, steps.as_slice(), to, output),
         Action::Diff { .. } => unreachable!(),
     }
 }

@@ -2,7 +2,7 @@
 //! nothing; their contracts are the laws.
 
 ghost use Rattle.std.specs.Prelude.{◌≡◌, ◌↔◌, ◌++◌, ◌∷◌, [], Contains, List, ℕ};
-ghost use Rattle.std.specs.Prelude.{Result, Vec, vec_items};
+ghost use Rattle.std.specs.Prelude.{None, Result, Some, Vec, vec_items};
 ghost use Rattle.std.specs.Global.{Global};
 ghost use Rattle.rbac_terms.specs.Principals.{Who};
 ghost use Rattle.rbac_model.specs.Policies.{PolicyView};
@@ -16,8 +16,9 @@ ghost use Rattle.rbac_question.specs.declared.command.Action.TheVariants.{Diff, 
 ghost use Rattle.rbac_question.specs.declared.command.Action.TheVariants.{Universe, WaysTo};
 ghost use Rattle.rbac_question.specs.declared.command.Change.{Change};
 ghost use Rattle.rbac_question.specs.declared.command.Question.{Question};
+ghost use Rattle.rbac_question.specs.declared.path_end.PathEnd.{PathEnd};
 ghost use Rattle.rbac_diff.specs.Requests.{AllowsNoMore};
-ghost use Rattle.rbac_cli.specs.Agreement.{HasNoPowerLine, LinesAgree};
+ghost use Rattle.rbac_cli.specs.Agreement.{HasNoPowerLine, LinesAgree, PathAgrees};
 ghost use Rattle.rbac_cli.specs.Exports.{AreLoaded};
 ghost use Rattle.rbac_cli.specs.Out.{Answers};
 ghost use Rattle.rbac_cli.specs.PlusLines.{HasPlusLine};
@@ -36,7 +37,8 @@ use rbac_manifest::{
     resolved_policies_are_one, resolved_policies_have_no_fault,
 };
 use rbac_paths::{
-    paths_are_one, paths_begin_with_powers, powers_are_one, ways_agree_with_paths, ways_are_one,
+    one_path_is_one, paths_are_one, paths_begin_with_powers, powers_are_one, ways_agree_with_paths,
+    ways_are_one,
 };
 use rbac_universe::universes_have_no_fault;
 use std::io::Write;
@@ -50,6 +52,7 @@ pub fn answers_are_one()
 {
     powers_are_one();
     paths_are_one();
+    one_path_is_one();
     ways_are_one();
 }
 
@@ -73,6 +76,7 @@ pub fn runs_are_one<V: Write, W: Write>()
     universes_have_no_fault();
     powers_are_one();
     paths_are_one();
+    one_path_is_one();
     ways_are_one();
 }
 
@@ -108,11 +112,23 @@ pub fn indirect_answers_agree_with_paths()
     ensures { (inputs : List (List ℕ)) (l : LoadedView) (who : Who) (steps others : Vec Step Global)
         (q : Question) (text other : List ℕ) (status ending : Status) → IsLoaded inputs l
         → Contains l.principals who → vec_items steps ≡ vec_items others
-        → Answers (Single l) (Paths who steps) text status
+        → Answers (Single l) (Paths who steps None) text status
         → Answers (Single l) (WaysTo others q) other ending
         → LinesAgree l (vec_items steps) who q text other }
 {
     ways_agree_with_paths();
+}
+
+/// `paths --to TO` lists lines of `paths` by the same steps. Its status is 1 exactly if `paths` has
+/// no line for TO, and then it lists nothing (own).
+pub fn one_path_agrees_with_paths()
+    ensures { (l : LoadedView) (who : Who) (steps others : Vec Step Global) (to : PathEnd)
+        (text other : List ℕ) (status ending : Status) → vec_items steps ≡ vec_items others
+        → Answers (Single l) (Paths who steps None) text status
+        → Answers (Single l) (Paths who others (Some to)) other ending
+        → PathAgrees to text other ending }
+{
+    paths_are_one();
 }
 
 /// If no line of `powers` has the key of a principal or of one of its groups, `paths` for this
@@ -121,7 +137,7 @@ pub fn no_paths_without_powers()
     ensures { (inputs : List (List ℕ)) (l : LoadedView) (who : Who) (steps : Vec Step Global)
         (text other : List ℕ) (status ending : Status) → IsLoaded inputs l
         → Answers (Single l) Powers text status → HasNoPowerLine text who
-        → Answers (Single l) (Paths who steps) other ending → other ≡ [] }
+        → Answers (Single l) (Paths who steps None) other ending → other ≡ [] }
 {
     paths_begin_with_powers();
 }

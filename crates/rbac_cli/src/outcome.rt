@@ -8,9 +8,9 @@ use std::fmt;
 /// The exit status of a run that gave its answer.
 #[derive(Clone, Copy, Debug, PartialEq, Eq)]
 pub enum Status {
-    /// 0: `yes`, no findings, no changes, or the answer of any other command.
+    /// 0: `yes`, no findings, no changes, a path to TO, or the answer of any other command.
     Zero,
-    /// 1: `no`, findings, or changes.
+    /// 1: `no`, findings, changes, or no path to TO.
     One,
 }
 

@@ -5,12 +5,12 @@ use Rattle.std.specs.Str.{bytes_eq}
 use Rattle.std.proofs.lemmas.Slice.Eq.{bytes_eq-Decides}
 use Rattle.clap.specs.Words.{Row, Text, first_of}
 use Rattle.rbac_question.specs.Lines.{CanIParts, RulesParts, MatrixParts, LintParts, MeansCanI, MeansRules, MeansMatrix, MeansLint, MeansDiff, AcceptsCanI, RefusesCanI, RefusesRules, RefusesMatrix, RefusesLint, RefusesDiff, HasBadToken, IsMarkGiven}
-use Rattle.rbac_question.specs.PathsLines.{PathsParts, MeansPaths, RefusesPaths}
+use Rattle.rbac_question.specs.PathsLines.{PathsParts, AcceptsPaths, MeansPaths, RefusesPaths}
 use Rattle.rbac_question.specs.WhoCanLines.{WhoCanParts, MeansWhoCan, AcceptsWhoCan, RefusesWhoCan}
 use Rattle.rbac_question.specs.declared.command.Action.{Action}
 use Rattle.rbac_question.specs.declared.command.Action.TheVariants.{CanI, WhoCan, WaysTo, Rules, Matrix, Universe, Lint, Powers, Paths, Diff}
 use Rattle.rbac_question.specs.declared.fault.QuestionFault.{QuestionFault}
-use Rattle.rbac_question.specs.declared.fault.QuestionFault.TheVariants.{EmptyWord, UrlSubresource, BadToken, BadPrincipal, BadCode, BadChange, BadStep, BadIndirect, NoMemory}
+use Rattle.rbac_question.specs.declared.fault.QuestionFault.TheVariants.{EmptyWord, UrlSubresource, BadToken, BadPrincipal, BadCode, BadChange, BadStep, BadIndirect, BadEnd, NoMemory}
 use Rattle.rbac_question.specs.declared.line.DiffLine.{DiffLine}
 use Rattle.rbac_command.specs.MatrixOptions.{matrix_options_in}
 use Rattle.rbac_command.specs.Meaning.{parts_in, who_can_in, rules_line_in, paths_line_in, lint_in, diff_in, is_known, DoesAction, IsNumberAt, RefusesAction}
@@ -57,7 +57,7 @@ as_can_i name rows (Ok (Matrix options after limit)) e h = absurd h.1
 as_can_i name rows (Ok (Lint only skip_system)) e h = absurd h.1
 as_can_i name rows (Ok Universe) e h = absurd h.1
 as_can_i name rows (Ok Powers) e h = absurd h.1
-as_can_i name rows (Ok (Paths principal chosen)) e h = absurd h.1
+as_can_i name rows (Ok (Paths principal chosen to)) e h = absurd h.1
 as_can_i name rows (Ok (Diff before change)) e h = absurd h.1
 as_can_i name rows (Err EmptyWord) e h = inl (e, h)
 as_can_i name rows (Err UrlSubresource) e h = inl (e, h)
@@ -67,6 +67,7 @@ as_can_i name rows (Err BadCode) e h = absurd h
 as_can_i name rows (Err BadChange) e h = absurd h
 as_can_i name rows (Err BadStep) e h = absurd h
 as_can_i name rows (Err BadIndirect) e h = absurd h
+as_can_i name rows (Err BadEnd) e h = absurd h
 as_can_i name rows (Err NoMemory) e h = tt
 
 pub can_i_line : (name : Text) (rows : List Row) (l : CanIParts) (r : Result Action QuestionFault) → name ≡ codes "can-i" → l ≡ parts_in rows
@@ -86,7 +87,7 @@ as_who_can name rows (Ok (Matrix options after limit)) e h = absurd h.1
 as_who_can name rows (Ok (Lint only skip_system)) e h = absurd h.1
 as_who_can name rows (Ok Universe) e h = absurd h.1
 as_who_can name rows (Ok Powers) e h = absurd h.1
-as_who_can name rows (Ok (Paths principal chosen)) e h = absurd h.1
+as_who_can name rows (Ok (Paths principal chosen to)) e h = absurd h.1
 as_who_can name rows (Ok (Diff before change)) e h = absurd h.1
 as_who_can name rows (Err EmptyWord) e h = inr (e, h)
 as_who_can name rows (Err UrlSubresource) e h = inr (e, h)
@@ -96,6 +97,7 @@ as_who_can name rows (Err BadCode) e h = absurd h
 as_who_can name rows (Err BadChange) e h = absurd h
 as_who_can name rows (Err BadStep) e h = inr (e, h)
 as_who_can name rows (Err BadIndirect) e h = (e, h)
+as_who_can name rows (Err BadEnd) e h = absurd h
 as_who_can name rows (Err NoMemory) e h = tt
 
 pub who_can_line : (name : Text) (rows : List Row) (l : WhoCanParts) (r : Result Action QuestionFault) → name ≡ codes "who-can" → l ≡ who_can_in rows
@@ -115,7 +117,7 @@ as_rules name rows (Ok (Matrix options after limit)) e h = absurd h
 as_rules name rows (Ok (Lint only skip_system)) e h = absurd h
 as_rules name rows (Ok Universe) e h = absurd h
 as_rules name rows (Ok Powers) e h = absurd h
-as_rules name rows (Ok (Paths principal chosen)) e h = absurd h
+as_rules name rows (Ok (Paths principal chosen to)) e h = absurd h
 as_rules name rows (Ok (Diff before change)) e h = absurd h
 as_rules name rows (Err EmptyWord) e h = absurd h
 as_rules name rows (Err UrlSubresource) e h = absurd h
@@ -125,6 +127,7 @@ as_rules name rows (Err BadCode) e h = absurd h
 as_rules name rows (Err BadChange) e h = absurd h
 as_rules name rows (Err BadStep) e h = absurd h
 as_rules name rows (Err BadIndirect) e h = absurd h
+as_rules name rows (Err BadEnd) e h = absurd h
 as_rules name rows (Err NoMemory) e h = tt
 
 pub rules_line : (name : Text) (rows : List Row) (l : RulesParts) (r : Result Action QuestionFault) → name ≡ codes "rules" → l ≡ rules_line_in rows
@@ -134,18 +137,18 @@ rules_line name rows l r e same h =
     as_rules name rows r e (subst (λ (parts : RulesParts). MatchResult r (MeansRules parts) (RefusesRules parts)) same h)
 
 as_paths : (name : Text) (rows : List Row) (r : Result Action QuestionFault) → name ≡ codes "paths"
-    → MatchResult r (MeansPaths (paths_line_in rows)) (RefusesPaths (paths_line_in rows))
+    → MatchResult r (λ a. AcceptsPaths (paths_line_in rows) × MeansPaths (paths_line_in rows) a) (RefusesPaths (paths_line_in rows))
     → MatchResult r (DoesAction name rows) (RefusesAction name rows)
-as_paths name rows (Ok (CanI principal options question)) e h = absurd h
-as_paths name rows (Ok (WhoCan options question)) e h = absurd h
-as_paths name rows (Ok (WaysTo chosen question)) e h = absurd h
-as_paths name rows (Ok (Rules principal scope)) e h = absurd h
-as_paths name rows (Ok (Matrix options after limit)) e h = absurd h
-as_paths name rows (Ok (Lint only skip_system)) e h = absurd h
-as_paths name rows (Ok Universe) e h = absurd h
-as_paths name rows (Ok Powers) e h = absurd h
-as_paths name rows (Ok (Paths principal chosen)) e h = (e, h)
-as_paths name rows (Ok (Diff before change)) e h = absurd h
+as_paths name rows (Ok (CanI principal options question)) e h = absurd h.1
+as_paths name rows (Ok (WhoCan options question)) e h = absurd h.1
+as_paths name rows (Ok (WaysTo chosen question)) e h = absurd h.1
+as_paths name rows (Ok (Rules principal scope)) e h = absurd h.1
+as_paths name rows (Ok (Matrix options after limit)) e h = absurd h.1
+as_paths name rows (Ok (Lint only skip_system)) e h = absurd h.1
+as_paths name rows (Ok Universe) e h = absurd h.1
+as_paths name rows (Ok Powers) e h = absurd h.1
+as_paths name rows (Ok (Paths principal chosen to)) e h = (e, h.0, h.1)
+as_paths name rows (Ok (Diff before change)) e h = absurd h.1
 as_paths name rows (Err EmptyWord) e h = absurd h
 as_paths name rows (Err UrlSubresource) e h = absurd h
 as_paths name rows (Err BadToken) e h = absurd h
@@ -154,13 +157,14 @@ as_paths name rows (Err BadCode) e h = absurd h
 as_paths name rows (Err BadChange) e h = absurd h
 as_paths name rows (Err BadStep) e h = inl (e, h)
 as_paths name rows (Err BadIndirect) e h = absurd h
+as_paths name rows (Err BadEnd) e h = (e, h)
 as_paths name rows (Err NoMemory) e h = tt
 
 pub paths_line : (name : Text) (rows : List Row) (l : PathsParts) (r : Result Action QuestionFault) → name ≡ codes "paths" → l ≡ paths_line_in rows
-    → MatchResult r (MeansPaths l) (RefusesPaths l)
+    → MatchResult r (λ a. AcceptsPaths l × MeansPaths l a) (RefusesPaths l)
     → MatchResult r (DoesAction name rows) (RefusesAction name rows)
 paths_line name rows l r e same h =
-    as_paths name rows r e (subst (λ (parts : PathsParts). MatchResult r (MeansPaths parts) (RefusesPaths parts)) same h)
+    as_paths name rows r e (subst (λ (parts : PathsParts). MatchResult r (λ a. AcceptsPaths parts × MeansPaths parts a) (RefusesPaths parts)) same h)
 
 as_lint : (name : Text) (rows : List Row) (r : Result Action QuestionFault) → name ≡ codes "lint"
     → MatchResult r (MeansLint (lint_in rows)) (RefusesLint (lint_in rows))
@@ -173,7 +177,7 @@ as_lint name rows (Ok (Matrix options after limit)) e h = absurd h
 as_lint name rows (Ok (Lint only skip_system)) e h = (e, h)
 as_lint name rows (Ok Universe) e h = absurd h
 as_lint name rows (Ok Powers) e h = absurd h
-as_lint name rows (Ok (Paths principal chosen)) e h = absurd h
+as_lint name rows (Ok (Paths principal chosen to)) e h = absurd h
 as_lint name rows (Ok (Diff before change)) e h = absurd h
 as_lint name rows (Err EmptyWord) e h = absurd h
 as_lint name rows (Err UrlSubresource) e h = absurd h
@@ -183,6 +187,7 @@ as_lint name rows (Err BadCode) e h = (e, h)
 as_lint name rows (Err BadChange) e h = absurd h
 as_lint name rows (Err BadStep) e h = absurd h
 as_lint name rows (Err BadIndirect) e h = absurd h
+as_lint name rows (Err BadEnd) e h = absurd h
 as_lint name rows (Err NoMemory) e h = tt
 
 pub lint_line : (name : Text) (rows : List Row) (l : LintParts) (r : Result Action QuestionFault) → name ≡ codes "lint" → l ≡ lint_in rows
@@ -204,7 +209,7 @@ matrix_line name rows l (Ok (Matrix options after limit)) e v f n h =
 matrix_line name rows l (Ok (Lint only skip_system)) e v f n h = absurd h
 matrix_line name rows l (Ok Universe) e v f n h = absurd h
 matrix_line name rows l (Ok Powers) e v f n h = absurd h
-matrix_line name rows l (Ok (Paths principal chosen)) e v f n h = absurd h
+matrix_line name rows l (Ok (Paths principal chosen to)) e v f n h = absurd h
 matrix_line name rows l (Ok (Diff before change)) e v f n h = absurd h
 matrix_line name rows l (Err EmptyWord) e v f n h = absurd h
 matrix_line name rows l (Err UrlSubresource) e v f n h = absurd h
@@ -214,6 +219,7 @@ matrix_line name rows l (Err BadCode) e v f n h = absurd h
 matrix_line name rows l (Err BadChange) e v f n h = absurd h
 matrix_line name rows l (Err BadStep) e v f n h = absurd h
 matrix_line name rows l (Err BadIndirect) e v f n h = absurd h
+matrix_line name rows l (Err BadEnd) e v f n h = absurd h
 matrix_line name rows l (Err NoMemory) e v f n h = tt
 
 as_diff : (name : Text) (rows : List Row) (r : Result Action QuestionFault) → name ≡ codes "diff"
@@ -226,7 +232,7 @@ as_diff name rows (Ok (Rules principal scope)) e h = absurd h
 as_diff name rows (Ok (Matrix options after limit)) e h = absurd h
 as_diff name rows (Ok Universe) e h = absurd h
 as_diff name rows (Ok Powers) e h = absurd h
-as_diff name rows (Ok (Paths principal chosen)) e h = absurd h
+as_diff name rows (Ok (Paths principal chosen to)) e h = absurd h
 as_diff name rows (Ok (Lint only skip_system)) e h = absurd h
 as_diff name rows (Ok (Diff before change)) e h = (e, h)
 as_diff name rows (Err EmptyWord) e h = absurd h
@@ -237,6 +243,7 @@ as_diff name rows (Err BadCode) e h = absurd h
 as_diff name rows (Err BadChange) e h = (e, h)
 as_diff name rows (Err BadStep) e h = absurd h
 as_diff name rows (Err BadIndirect) e h = absurd h
+as_diff name rows (Err BadEnd) e h = absurd h
 as_diff name rows (Err NoMemory) e h = tt
 
 pub diff_line : (name : Text) (rows : List Row) (l : DiffLine) (r : Result Action QuestionFault) → name ≡ codes "diff" → l ≡ diff_in rows

@@ -95,6 +95,10 @@ only_rule = record (new_rule (codes "only")) { long = Some (codes "only"); value
 abbrev pub steps_rule : Rule
 steps_rule = record (new_rule (codes "steps")) { long = Some (codes "steps"); value_names = 1 }
 
+-- `--to TO`
+abbrev pub to_rule : Rule
+to_rule = record (new_rule (codes "to")) { long = Some (codes "to"); value_names = 1 }
+
 -- `--indirect`
 abbrev pub indirect_rule : Rule
 indirect_rule = flag_rule (codes "indirect")
@@ -193,9 +197,11 @@ lint_app =
 abbrev pub powers_app : App
 powers_app = with_rule (new_app (codes "powers")) files_rule
 
--- paths [--groups A,B] [--group G].. [--steps STEPS] WHO [FILE]..
+-- paths [--groups A,B] [--group G].. [--steps STEPS] [--to TO] [-n NS] WHO [FILE]..
 abbrev pub paths_app : App
-paths_app = with_who (with_rule (with_groups (new_app (codes "paths"))) steps_rule)
+paths_app = with_who (with_rule
+    (with_rule (with_rule (with_groups (new_app (codes "paths"))) steps_rule) to_rule)
+    namespace_rule)
 
 -- diff --before FILE.. [--after FILE..] [--without FILE..] [--with FILE..]
 abbrev pub diff_app : App

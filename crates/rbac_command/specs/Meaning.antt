@@ -10,7 +10,7 @@ use Rattle.rbac_question.specs.Lines.{QuestionParts, CanIParts, WhoParts, RulesP
 use Rattle.rbac_question.specs.Lines.{MeansCanI, MeansRules, MeansLint, AcceptsCanI, RefusesCanI}
 use Rattle.rbac_question.specs.Lines.{HasBadToken, HasBadPrincipal, HasBadCode, HasBadChange}
 use Rattle.rbac_question.specs.Lines.{IsMarkGiven, MeansDiff}
-use Rattle.rbac_question.specs.PathsLines.{PathsParts, MeansPaths, RefusesPaths}
+use Rattle.rbac_question.specs.PathsLines.{PathsParts, AcceptsPaths, MeansPaths, RefusesPaths}
 use Rattle.rbac_question.specs.WhoCanLines.{WhoCanParts, MeansWhoCan, AcceptsWhoCan, RefusesWhoCan}
 use Rattle.rbac_question.specs.declared.command.Action.{Action}
 use Rattle.rbac_question.specs.declared.command.Action.TheVariants.{CanI, WhoCan, WaysTo, Rules}
@@ -97,7 +97,12 @@ rules_line_in rows = record {
 
 -- the parts of a `paths` line
 abbrev pub paths_line_in : List Row → PathsParts
-paths_line_in rows = record { who = who_in rows; steps = first_of (codes "steps") rows }
+paths_line_in rows = record {
+  who = who_in rows;
+  steps = first_of (codes "steps") rows;
+  to = first_of (codes "to") rows;
+  namespace = value_at (codes "namespace") rows;
+}
 
 -- the parts of a `lint` line
 abbrev pub lint_in : List Row → LintParts
@@ -164,8 +169,9 @@ DoesAction name rows Universe = name ≡ codes "universe"
 DoesAction name rows (Lint only skip_system) =
     (name ≡ codes "lint") × MeansLint (lint_in rows) (Lint only skip_system)
 DoesAction name rows Powers = name ≡ codes "powers"
-DoesAction name rows (Paths principal chosen) =
-    (name ≡ codes "paths") × MeansPaths (paths_line_in rows) (Paths principal chosen)
+DoesAction name rows (Paths principal chosen to) =
+    (name ≡ codes "paths") × AcceptsPaths (paths_line_in rows)
+    × MeansPaths (paths_line_in rows) (Paths principal chosen to)
 DoesAction name rows (Diff before change) =
     (name ≡ codes "diff") × MeansDiff (diff_in rows) (Diff before change)
 
@@ -182,7 +188,7 @@ Means (Some p) c = MeansRows p.0 p.1 c
 -- ---- refusals
 
 -- the refusal of a subcommand's matches: U4 of `matrix`, U5 of `rules`, U6 of `lint`, U7 of `diff`,
--- U5 and U8 of `paths`, U2 and U3 of `can-i`, U2, U3, U8 and U9 of `who-can`, and none of
+-- U5, U8 and U10 of `paths`, U2 and U3 of `can-i`, U2, U3, U8 and U9 of `who-can`, and none of
 -- `universe` and `powers`; out of memory may come at any time
 abbrev pub RefusesAction : Text → List Row → QuestionFault → Type 0
 RefusesAction name rows question.NoMemory = Unit {0}
@@ -197,6 +203,8 @@ RefusesAction name rows question.BadStep =
     ⊎ ((name ≡ codes "who-can") × RefusesWhoCan (who_can_in rows) question.BadStep)
 RefusesAction name rows question.BadIndirect = (name ≡ codes "who-can")
     × RefusesWhoCan (who_can_in rows) question.BadIndirect
+RefusesAction name rows question.BadEnd = (name ≡ codes "paths")
+    × RefusesPaths (paths_line_in rows) question.BadEnd
 RefusesAction name rows question.BadChange = (name ≡ codes "diff") × HasBadChange (diff_in rows)
 RefusesAction name rows e = ((name ≡ codes "can-i") × RefusesCanI (parts_in rows) e)
     ⊎ ((name ≡ codes "who-can") × RefusesWhoCan (who_can_in rows) e)

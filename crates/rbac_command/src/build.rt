@@ -11,14 +11,14 @@ ghost use Rattle.rbac_command.specs.App.{group_rule, in_namespace_rule, only_rul
 ghost use Rattle.rbac_command.specs.App.{with_scope, with_question, can_i_app, who_can_app};
 ghost use Rattle.rbac_command.specs.App.{rules_app, matrix_app, universe_app, lint_app, bare_app};
 ghost use Rattle.rbac_command.specs.App.{rbac_app, before_files_rule, after_files_rule, diff_app};
-ghost use Rattle.rbac_command.specs.App.{powers_app, paths_app, steps_rule, with_who};
+ghost use Rattle.rbac_command.specs.App.{powers_app, paths_app, steps_rule, to_rule, with_who};
 ghost use Rattle.rbac_command.specs.App.{without_files_rule, with_files_rule, skip_system_rule};
 ghost use Rattle.rbac_command.specs.Flags.{flag_rule};
 
 use crate::help::{
     ALL, CAN_I_MORE, DIFF_MORE, INDIRECT, LINT_MORE, MATRIX_MORE, MORE, NAMESPACE, PATHS_MORE,
-    POWERS_MORE, RULES_ALL, RULES_MORE, RULES_NAMESPACE, STEPS, UNIVERSE_MORE, WHO_CAN_MORE,
-    WHO_CAN_STEPS, WHY, WHY_NOT,
+    POWERS_MORE, RULES_ALL, RULES_MORE, RULES_NAMESPACE, STEPS, TO_NAMESPACE, UNIVERSE_MORE,
+    WHO_CAN_MORE, WHO_CAN_STEPS, WHY, WHY_NOT,
 };
 use crate::holder_options::with_holder_options;
 use crate::matrix_options::with_matrix_options;
@@ -246,6 +246,18 @@ fn steps_arg<'a>(alloc: Global, help: &'a str) -> Arg<'a>
     ensures local { result.global ≡ false }
 {
     option(alloc, "steps", "STEPS", help)
+}
+
+fn to_arg<'a>(alloc: Global) -> Arg<'a>
+    ensures rule { rule_of result ≡ to_rule }
+    ensures local { result.global ≡ false }
+{
+    option(
+        alloc,
+        "to",
+        "TO",
+        "List only the path to TO, a second field of other lines, e.g. u:bob or ClusterRole/edit",
+    )
 }
 
 fn skip_system_arg<'a>(alloc: Global) -> Arg<'a>
@@ -498,6 +510,8 @@ fn paths<'a>(alloc: Global) -> Built<'a>
     );
     let command = with_groups(alloc, Ok(command));
     let command = with(command, steps_arg(alloc, STEPS));
+    let command = with(command, to_arg(alloc));
+    let command = with(command, namespace_arg(alloc, TO_NAMESPACE));
     with_who(alloc, command)
 }
 

@@ -188,12 +188,16 @@ pub(crate) const PATHS_MORE: &str = "A line has eleven fields, joined by tabs:
   RULE     the number of the rule in SOURCE, from 1
   SUBJECT  the number of the first subject in BINDING that is FROM or a group of it, from 1
 If FROM is a role, BINDING and SUBJECT are -; if FROM is *, all five fields from BINDING on are -.
-To read a path, look up FROM as the TO of a line above, and so on back to WHO.
+To read a path, look up FROM as the TO of a line above, and so on back to WHO. With --to, only the
+lines of one path are listed, in order from WHO to TO.
 
-WHO is as in rules --help. The exit status is 0 even if there is no line; 2 is an error.
+WHO is as in rules --help. The exit status is 0 even if there is no line; with --to it is 1 if no
+path leads to TO. 2 is an error.
 
-Example:
-  rbacaudit paths --steps run,exec,impersonate u:alice cluster.json namespaced.json";
+Examples:
+  rbacaudit paths --steps run,exec,impersonate u:alice cluster.json namespaced.json
+  rbacaudit paths --to '*' u:alice cluster.json namespaced.json
+  rbacaudit paths --to ClusterRole/edit -n dev u:alice cluster.json namespaced.json";
 
 pub(crate) const DIFF_MORE: &str = "A line has eight fields, joined by tabs; - is an empty field:
   CHANGE     + for a permission that is gained, - for one that is lost
@@ -239,6 +243,9 @@ pub(crate) const WHO_CAN_STEPS: &str =
     "With --indirect, only these steps count, e.g. run,exec (default: all of powers)";
 
 pub(crate) const STEPS: &str = "Only these steps count, e.g. run,exec (default: all of powers)";
+
+pub(crate) const TO_NAMESPACE: &str =
+    "With --to, the namespace where a ClusterRole or * counts (default: the whole cluster)";
 
 pub(crate) const RULES_NAMESPACE: &str =
     "Namespace whose RoleBindings count, with all ClusterRoleBindings (default: any)";

@@ -138,9 +138,12 @@ fn rules_line_of<'m, 'a>(matches: &'m ArgMatches<'a>) -> RulesLine<'m, 'a>
 fn paths_line_of<'m, 'a>(matches: &'m ArgMatches<'a>) -> PathsLine<'m, 'a>
     ensures { result ≡ paths_line_in (rows_of (found_of matches.now)) }
 {
+    let place = text_of(matches, "namespace");
     PathsLine {
         who: who_line_of(matches),
         steps: value_of(matches, "steps"),
+        to: value_of(matches, "to"),
+        namespace: place,
     }
 }
 
@@ -317,7 +320,7 @@ fn meaning_of(alloc: Global, matches: &ArgMatches<'_>) -> Result<Command, Questi
 
 /// The command that the words mean; the first word is the program's name.
 ///
-/// U1 if `clap` refuses the words, or if help or the version is asked for; otherwise U2 to U9, or
+/// U1 if `clap` refuses the words, or if help or the version is asked for; otherwise U2 to U10, or
 /// out of memory.
 pub fn command_of(alloc: Global, words: &[String]) -> Result<Command, UsageFault>
     ensures { IsAnswer (map string_bytes words.now) result }

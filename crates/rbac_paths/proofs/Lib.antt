@@ -34,6 +34,7 @@ pub mod NodeWords
 pub mod NodesAdded
 pub mod NodesInOrder
 pub mod NotSomebody
+pub mod OnePath
 pub mod OnePaths
 pub mod OnePowers
 pub mod OneReason

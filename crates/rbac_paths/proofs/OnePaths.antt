@@ -98,7 +98,7 @@ one_count R S n m y a b = elim (cases_order n m) [
   ]
 ]
 
-abbrev path_name : PathView → List Text
+abbrev pub path_name : PathView → List Text
 path_name = told_name (λ (x : PathView). x.count) (λ (x : PathView). x.node)
 
 module _ (p : PolicyView) (all : List Who) (steps : List Step) (start : NodeView) where
@@ -108,7 +108,7 @@ module _ (p : PolicyView) (all : List Who) (steps : List Step) (start : NodeView
   abbrev S : NodeView → Type 0
   S y = y ≡ start
 
-  ascend : (xs : List PathView) → ArePaths p all steps start xs → IsAscendingBy path_name xs
+  pub ascend : (xs : List PathView) → ArePaths p all steps start xs → IsAscendingBy path_name xs
   ascend xs are i j d lt l = told_less (λ (x : PathView). x.count) (λ (x : PathView). x.node) (get_or xs i d) (get_or xs j d) (are.ordered i j d lt l)
 
   -- each node that the start comes to, except the start, is listed
@@ -136,7 +136,7 @@ module _ (p : PolicyView) (all : List Who) (steps : List Step) (start : NodeView
   one_before xs are n y x z a b Greater e =
       absurd (a.first z (nat_list_cmp_total.antisymm (node_text z) (node_text x) ∙ ap ordering_reverse (sym e)) b.fewest b.goes)
 
-  one_path : (xs : List PathView) → ArePaths p all steps start xs → (x z : PathView) → IsPath p all steps start x → IsPath p all steps start z → x.node ≡ z.node → x ≡ z
+  pub one_path : (xs : List PathView) → ArePaths p all steps start xs → (x z : PathView) → IsPath p all steps start x → IsPath p all steps start z → x.node ≡ z.node → x ≡ z
   one_path xs are x z a b e =
       let few : IsFewest R S z.count x.node = subst (IsFewest R S z.count) (sym e) b.fewest in
       let counts : x.count ≡ z.count = one_count R S x.count z.count x.node a.fewest few in

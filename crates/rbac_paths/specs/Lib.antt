@@ -13,6 +13,7 @@ pub mod Joints
 pub mod Lines
 pub mod NodeLists
 pub mod Nodes
+pub mod OnePath
 pub mod PathLines
 pub mod Paths
 pub mod Powers

@@ -1,18 +1,20 @@
 //! Laws of powers, paths and ways. Each law is the contract of a function that does nothing.
 
-ghost use Rattle.std.specs.Prelude.{◌≡◌, [], Any, Contains, List};
+ghost use Rattle.std.specs.Prelude.{◌≡◌, [], Any, Contains, List, Option};
 ghost use Rattle.rbac_model.specs.Holders.{IsKeyFor};
 ghost use Rattle.rbac_model.specs.Policies.{IsPolicy, PolicyView};
 ghost use Rattle.rbac_paths.specs.Access.{AccessView};
 ghost use Rattle.rbac_paths.specs.Agreement.{AgreeOn};
 ghost use Rattle.rbac_paths.specs.Following.{LeadBack, LeadOn};
 ghost use Rattle.rbac_paths.specs.Nodes.{Somebody};
+ghost use Rattle.rbac_paths.specs.OnePath.{IsPathTo};
 ghost use Rattle.rbac_paths.specs.Paths.{ArePathsOf, PathView};
 ghost use Rattle.rbac_paths.specs.Powers.{ArePowers, PowerView};
 ghost use Rattle.rbac_paths.specs.Principals.{AreToldByKeys};
 ghost use Rattle.rbac_paths.specs.WaysTo.{AreWaysTo, WayView};
 ghost use Rattle.rbac_steps.specs.declared.steps.Step.{Step};
 ghost use Rattle.rbac_terms.specs.Principals.{Who};
+ghost use Rattle.rbac_terms.specs.Text.{Text};
 
 /// A policy determines the list of its powers: two lists of all its powers are the same, in the
 /// same order (own).
@@ -27,6 +29,16 @@ pub fn paths_are_one()
     ensures { (p : PolicyView) (principals : List Who) (steps : List Step) (who : Who)
         (xs others : List PathView) → ArePathsOf p principals steps who xs
         → ArePathsOf p principals steps who others → xs ≡ others }
+{}
+
+/// The paths of a principal determine the one path to whom or what is asked for: two lists of its
+/// lines are the same, in the same order (own).
+pub fn one_path_is_one()
+    ensures { (p : PolicyView) (principals : List Who) (steps : List Step) (who : Who) (to : Text)
+        (scope : Option Text) (paths chain other : List PathView)
+        → ArePathsOf p principals steps who paths
+        → IsPathTo (Somebody who) to scope paths chain
+        → IsPathTo (Somebody who) to scope paths other → chain ≡ other }
 {}
 
 /// The policy, the principals, the steps and the request determine the list of ways: two lists of

@@ -18,6 +18,7 @@ mod line;
 mod listed;
 mod node;
 mod nodes;
+mod one_path;
 mod other_nodes;
 mod path_line;
 mod power;
@@ -39,11 +40,12 @@ pub use all_paths::{Path, paths};
 pub use all_steps::powers;
 pub use all_ways::{Next, Way, ways_to};
 pub use laws::{
-    paths_are_one, paths_begin_with_powers, paths_lead_back, powers_are_one, ways_agree_with_paths,
-    ways_are_one, ways_lead_on,
+    one_path_is_one, paths_are_one, paths_begin_with_powers, paths_lead_back, powers_are_one,
+    ways_agree_with_paths, ways_are_one, ways_lead_on,
 };
 pub use line::put_power;
 pub use node::Node;
+pub use one_path::path_to;
 pub use path_line::put_path;
 pub use power::{Power, Powers};
 pub use rbac_steps::Step;

@@ -1,13 +1,13 @@
 //! Nodes: whom and what one can take over.
 
-ghost use Rattle.std.specs.Prelude.{◌≡◌, ◌++◌, OnOk, codes};
+ghost use Rattle.std.specs.Prelude.{◌≡◌, ◌++◌, IfOk, OnOk, codes};
 ghost use Rattle.rbac_text.specs.Row.{field_and_tab};
 ghost use Rattle.rbac_paths.specs.NodeLists.{node_text, where_text, who_or_what};
 ghost use Rattle.rbac_paths.specs.Nodes.{node_of};
 
 use rbac_terms::{CLUSTER_ROLE, ClusterRole, Principal, Role, Word};
 use rbac_text::{put_choice_and_tab, put_field_and_tab, put_role};
-use std::alloc::AllocError;
+use std::alloc::{AllocError, Global};
 
 /// Whom or what a step can take over: a user or a group, a role where it can be bound, or
 /// everything in a scope (own).
@@ -64,10 +64,42 @@ pub(crate) fn put_cluster_role(line: &mut Vec<u8>, role: &ClusterRole) -> Result
     ensures { OnOk result (line.new.items
         ≡ line.old.items ++ field_and_tab (codes "ClusterRole/" ++ role.now.name)) }
 {
-    let mut name = Word::from_slice(*line.allocator(), CLUSTER_ROLE.as_bytes())?;
-    name.push(b'/')?;
-    name.push_slice(role.name.as_bytes())?;
+    let name = cluster_role_word(*line.allocator(), role)?;
     put_field_and_tab(line, name.as_bytes())
+}
+
+// `ClusterRole/NAME`.
+fn cluster_role_word(alloc: Global, role: &ClusterRole) -> Result<Word, AllocError>
+    ensures { IfOk result (λ word. word ≡ codes "ClusterRole/" ++ role.now.name) }
+{
+    let mut word = Word::from_slice(alloc, CLUSTER_ROLE.as_bytes())?;
+    word.push(b'/')?;
+    word.push_slice(role.name.as_bytes())?;
+    Ok(word)
+}
+
+// `Role/NAMESPACE/NAME`.
+fn own_role_word(alloc: Global, role: &Role) -> Result<Word, AllocError>
+    ensures { IfOk result
+        (λ word. word ≡ codes "Role/" ++ role.now.namespace ++ codes "/" ++ role.now.name) }
+{
+    let mut word = Word::from_slice(alloc, b"Role/".as_slice())?;
+    word.push_slice(role.namespace.as_bytes())?;
+    word.push(b'/')?;
+    word.push_slice(role.name.as_bytes())?;
+    Ok(word)
+}
+
+/// Who or what a node is, without the escapes of a printed field.
+pub(crate) fn what_of(alloc: Global, node: Node<'_>) -> Result<Word, AllocError>
+    ensures { IfOk result (λ word. word ≡ who_or_what (node_of node.entry)) }
+{
+    match node {
+        Node::Somebody(who) => who.key().clone(),
+        Node::ClusterRole(role, _) => cluster_role_word(alloc, role),
+        Node::Role(role) => own_role_word(alloc, role),
+        Node::Everything(_) => Word::from_slice(alloc, b"*".as_slice()),
+    }
 }
 
 // Adds `Role/NAMESPACE/NAME` as one field, and a tab.

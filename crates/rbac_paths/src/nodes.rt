@@ -199,8 +199,8 @@ fn add_node<'p>(alloc: Global, node: Node<'p>, nodes: &mut Printed<'p>) -> Resul
     Ok(())
 }
 
-// The printed text of a node: who or what it is, and where, each with a tab after it.
-fn text_of(alloc: Global, node: Node<'_>) -> Result<Word, AllocError>
+/// The printed text of a node: who or what it is, and where, each with a tab after it.
+pub(crate) fn text_of(alloc: Global, node: Node<'_>) -> Result<Word, AllocError>
     ensures { IfOk result (λ text. text ≡ node_text (node_of node.entry)) }
 {
     let mut text = Vec::new(alloc);

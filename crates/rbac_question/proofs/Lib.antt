@@ -1,3 +1,4 @@
+pub mod Ends
 pub mod Named
 pub mod Questions
 pub mod Texts

@@ -4,7 +4,7 @@ use Rattle.rbac_question.specs.declared.fault.QuestionFault.TheVariants.{EmptyWo
 use Rattle.rbac_question.specs.declared.fault.QuestionFault.TheVariants.{BadToken, BadPrincipal}
 use Rattle.rbac_question.specs.declared.fault.QuestionFault.TheVariants.{BadCode, BadChange}
 use Rattle.rbac_question.specs.declared.fault.QuestionFault.TheVariants.{BadStep, BadIndirect}
-use Rattle.rbac_question.specs.declared.fault.QuestionFault.TheVariants.{NoMemory}
+use Rattle.rbac_question.specs.declared.fault.QuestionFault.TheVariants.{BadEnd, NoMemory}
 use Rattle.rbac_token.specs.declared.fault.TokenFault.{TokenFault}
 use Rattle.rbac_token.specs.declared.fault.TokenFault.TheVariants as token
 
@@ -20,6 +20,8 @@ fault_text BadStep = codes "U8 steps are impersonate, token, run, exec, secrets,
     ++ codes "escalate, certificates, webhooks, apiservices, bootstrap, volumes, namespaces"
 fault_text BadIndirect = codes "U9 --indirect excludes --anywhere, --any-name, --every and --why; "
     ++ codes "--steps needs --indirect"
+fault_text BadEnd = codes "U10 --to takes u:USER, g:GROUP, ClusterRole/NAME, Role/NS/NAME or *; "
+    ++ codes "-n NS needs one of the last three"
 fault_text NoMemory = codes "out of memory"
 
 -- the refusal of a line whose token has this fault

@@ -1,6 +1,7 @@
 pub mod Asked
 pub mod Faults
 pub mod Lines
+pub mod PathEnds
 pub mod PathsLines
 pub mod StepsLines
 pub mod WhoCanLines

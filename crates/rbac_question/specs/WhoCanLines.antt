@@ -12,7 +12,7 @@ use Rattle.rbac_question.specs.declared.fault.QuestionFault.TheVariants.{EmptyWo
 use Rattle.rbac_question.specs.declared.fault.QuestionFault.TheVariants.{BadToken, BadPrincipal}
 use Rattle.rbac_question.specs.declared.fault.QuestionFault.TheVariants.{BadCode, BadChange}
 use Rattle.rbac_question.specs.declared.fault.QuestionFault.TheVariants.{BadStep, BadIndirect}
-use Rattle.rbac_question.specs.declared.fault.QuestionFault.TheVariants.{NoMemory}
+use Rattle.rbac_question.specs.declared.fault.QuestionFault.TheVariants.{BadEnd, NoMemory}
 
 -- the parts of a `who-can` line: `--indirect`, the text after `--steps`, the options about holders,
 -- and the parts that ask the question
@@ -61,4 +61,5 @@ RefusesWhoCan l BadCode = ⊥
 RefusesWhoCan l BadChange = ⊥
 RefusesWhoCan l BadStep = AcceptsQuestion l.question × HasBadStep l.steps
 RefusesWhoCan l BadIndirect = AcceptsQuestion l.question × AreStepWords l.steps × (¬ GoTogether l)
+RefusesWhoCan l BadEnd = ⊥
 RefusesWhoCan l NoMemory = Unit {0}

@@ -1,6 +1,7 @@
 //! Commands: what to do, with which options, and with which files.
 
 use crate::asked::Asked;
+use crate::path_end::PathEnd;
 use rbac_steps::Step;
 use rbac_terms::{Principal, Scope, Word};
 use rbac_token::Mark;
@@ -136,6 +137,8 @@ pub enum Action {
         principal: Principal,
         /// The steps that count: each at most once, in the order of the table.
         steps: Vec<Step>,
+        /// The end of the one path to list, from `--to` and `-n`; `None` lists all paths.
+        to: Option<PathEnd>,
     },
     /// Lists what a change lets users do, and what it takes from them.
     Diff {
@@ -180,6 +183,7 @@ impl Drop for Action {
             Self::Paths {
                 principal: _,
                 steps: _,
+                to: _,
             } => {}
             Self::Diff {
                 before: _,

@@ -15,6 +15,10 @@ const BAD_STEP: &str = "U8 steps are impersonate, token, run, exec, secrets, nod
 const BAD_INDIRECT: &str = "U9 --indirect excludes --anywhere, --any-name, --every and --why; \
     --steps needs --indirect";
 
+// The text of U10, which lists what a path can end at.
+const BAD_END: &str = "U10 --to takes u:USER, g:GROUP, ClusterRole/NAME, Role/NS/NAME or *; \
+    -n NS needs one of the last three";
+
 /// Why the texts of a line are refused (own).
 #[derive(Debug, Drop, Clone, Copy, PartialEq, Eq)]
 pub enum QuestionFault {
@@ -37,6 +41,10 @@ pub enum QuestionFault {
     /// U9: `who-can` has `--indirect` with `--why`, `--every`, `--anywhere` or `--any-name`, or
     /// `--steps` without `--indirect`.
     BadIndirect,
+    /// U10: TO isn't `u:` or `g:` with a name behind it, `ClusterRole/NAME`, `Role/NS/NAME` or `*`;
+    /// or `paths` has `-n` without `--to`, beside a user or a group, or beside a Role of another
+    /// namespace.
+    BadEnd,
     /// Out of memory.
     NoMemory,
 }
@@ -92,6 +100,7 @@ impl fmt::Display for QuestionFault {
             QuestionFault::BadChange => "U7 give either --after, or --with or --without",
             QuestionFault::BadStep => BAD_STEP,
             QuestionFault::BadIndirect => BAD_INDIRECT,
+            QuestionFault::BadEnd => BAD_END,
             QuestionFault::NoMemory => "out of memory",
         };
         f.write_str(text)

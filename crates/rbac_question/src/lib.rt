@@ -6,6 +6,7 @@ mod asked;
 mod command;
 mod fault;
 mod line;
+mod path_end;
 mod paths_line;
 mod steps_line;
 mod who;
@@ -17,6 +18,7 @@ pub use command::{
 };
 pub use fault::QuestionFault;
 pub use line::{CanILine, DiffLine, LintLine, MatrixLine, QuestionLine, RulesLine};
+pub use path_end::PathEnd;
 pub use paths_line::PathsLine;
 pub use rbac_steps::Step;
 pub use rbac_terms::Scope;

@@ -122,8 +122,8 @@ fn member_from(alloc: Global, group: &[u8]) -> Result<Principal, QuestionFault>
     }
 }
 
-// The name behind the mark of a principal's key; `None` if the key has another mark or no name.
-fn name_behind<'a>(mark: &[u8], key: &'a str) -> Option<&'a [u8]>
+/// The name behind the mark of a principal's key; `None` if the key has another mark or no name.
+pub(crate) fn name_behind<'a>(mark: &[u8], key: &'a str) -> Option<&'a [u8]>
     ensures { MatchOption result
         ((name : Text) → key.now ≡ mark.now ++ name → name ≡ [])
         (λ name. (key.now ≡ mark.now ++ name.now) × (name.now ≢ [])) }

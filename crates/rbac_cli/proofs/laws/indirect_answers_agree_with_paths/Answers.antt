@@ -1,13 +1,14 @@
-use Rattle.std.proofs.Common.{List, subst, sym}
+use Rattle.std.proofs.Common.{◌∙◌, List, ap, subst, sym}
 use Rattle.std.specs.Prelude.{vec_items}
 use Rattle.rbac_paths.specs.WaysTo.{AreWaysTo}
 use Rattle.rbac_steps.specs.declared.steps.Step.{Step}
 use Rattle.rbac_cli.specs.Meant.{access_meant}
+use Rattle.rbac_cli.specs.Out.{paths_text}
 use Rattle.rbac_cli.proofs.ToldByKeys.{told_by_keys}
 use Rattle.rbac_cli.proofs.laws.indirect_answers_agree_with_paths.Goals as goal
 
 pub returns : goal.returns
-returns c = λ inputs l who steps others q text other status ending loaded among same (paths, are, e, s) (target, namespace, meant, (ways, those, f, z)).
+returns c = λ inputs l who steps others q text other status ending loaded among same (paths, listed, are, all, e, s) (target, namespace, meant, (ways, those, f, z)).
     let asked = access_meant q target namespace in
     let these = subst (λ (chosen : List Step). AreWaysTo l.policy l.principals chosen asked ways) (sym same) those in
     record {
@@ -16,7 +17,7 @@ returns c = λ inputs l who steps others q text other status ending loaded among
       meant = meant;
       paths = paths;
       are_paths = are;
-      lines_of_paths = e;
+      lines_of_paths = e ∙ ap paths_text all;
       ways = ways;
       are_ways = these;
       lines_of_ways = f;

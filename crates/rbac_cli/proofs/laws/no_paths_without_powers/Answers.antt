@@ -6,6 +6,6 @@ use Rattle.rbac_cli.proofs.PowerLines.{no_power}
 use Rattle.rbac_cli.proofs.laws.no_paths_without_powers.Goals as goal
 
 pub returns : goal.returns
-returns c = λ inputs l who steps text other status ending loaded (powers, these, e, s) none (paths, are, f, z).
+returns c = λ inputs l who steps text other status ending loaded (powers, these, e, s) none (paths, listed, are, all, f, z).
     let without = no_power who powers (subst (λ (t : List ℕ). HasNoPowerLine t who) e none) in
-    f ∙ ap paths_text (c.paths_begin_with_powers.ensures l.policy powers l.principals (vec_items steps) who paths loaded.policy these without are)
+    f ∙ ap paths_text (all ∙ c.paths_begin_with_powers.ensures l.policy powers l.principals (vec_items steps) who paths loaded.policy these without are)
