@@ -729,5 +729,5 @@ def long_paths():
 
 if __name__ == '__main__':
     sys.exit(tested(streams, help_and_usage, full_disk, little_memory, rows, matrix_streams, universe_streams, rules_streams, lint_streams,
-                    powers_streams, paths_streams, ways_streams, limits, universe_limits, wide_rules, ring, long_paths, transcripts, links_and_heads, spaced_bindings, loop_of_pages,
-                    example_cluster))
+                    powers_streams, paths_streams, ways_streams, limits, universe_limits, wide_rules, ring, long_paths, transcripts,
+                    links_and_heads, spaced_bindings, loop_of_pages, example_cluster))
