@@ -99,11 +99,14 @@ module _ (p : PolicyView) (all : List Who) (steps : List Step) (start : NodeView
     ]
 
     pub walk_on : (rest : List PathView) (y : PathView) (chain : List PathView) → (IsWantedNext to scope chain y → ⊥) → Walked (rest ++ y ∷ []) chain → Walked rest chain
-    walk_on rest y [] not (passed, split, all_left) =
-        (y ∷ passed, split ∙ append_assoc rest (y ∷ []) passed, λ z has is. elim (Contains-push_cases rest y z (all_left z has is)) [
-          | inl there ↦ there
-          | inr same ↦ absurd (not (subst (λ (w : PathView). IsTo to scope w.node) (sym same) is))
-        ])
+    walk_on rest y [] not (passed, split, all_left) = (
+      y ∷ passed,
+      split ∙ append_assoc rest (y ∷ []) passed,
+      λ z has is. elim (Contains-push_cases rest y z (all_left z has is)) [
+        | inl there ↦ there
+        | inr same ↦ absurd (not (subst (λ (w : PathView). IsTo to scope w.node) (sym same) is))
+      ],
+    )
     walk_on rest y (x ∷ chain) not (passed, split, trail) =
         (y ∷ passed, split ∙ append_assoc rest (y ∷ []) passed, record { connects = trail.connects; leads = unwanted rest y x not trail.leads })
 

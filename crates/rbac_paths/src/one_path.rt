@@ -71,12 +71,7 @@ fn is_before(alloc: Global, path: &Path<'_>, after: &Path<'_>) -> Result<bool, A
 }
 
 // Whether a node is TO.
-fn is_to(
-    alloc: Global,
-    node: Node<'_>,
-    to: &Word,
-    scope: Option<&Word>,
-) -> Result<bool, AllocError>
+fn is_to(alloc: Global, node: Node<'_>, to: &Word, scope: Option<&Word>) -> Result<bool, AllocError>
     ensures { IfOk result
         (λ is. IsTrue is ↔ IsTo to.now (option_copied scope.entry) (node_of node.entry)) }
 {

@@ -58,7 +58,7 @@ pub role_in : (text given own : Text) (b : Bool) → IsRoleText text own × ((ot
     → IsTrue b ↔ IsRoleIn text given
 role_in text given own b (is, one) goes = (
   λ t. (own, is, goes.0 t),
-  λ (other, too, inn). goes.1 (elim inn [ | inl none ↦ inl none | inr same ↦ inr (same ∙ one other too) ]),
+  λ (other, too, inn). goes.1 (elim inn [ inl none ↦ inl none | inr same ↦ inr (same ∙ one other too) ]),
 )
 
 pub no_role_in : (text given : Text) → ((other : Text) → IsRoleText text other → ⊥) → IsRoleIn text given → ⊥

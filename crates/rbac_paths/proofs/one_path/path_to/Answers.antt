@@ -24,7 +24,7 @@ loop-path-preserved-in-Continue-branch-2 c = λ p principals steps who are.
     let left = subst (λ (l : List PathView). IsWalked (Somebody who) to scope xs l (reverse items)) c.in-Some.ensures.steps (c.loop-path.invariant p principals steps who are) in
     let wanted : IsWantedNext to scope (reverse items) x = subst (λ (l : List PathView). IsWantedNext to scope (reverse l) x) c.as_slice.ensures.value (c.in_ok-is_wanted.ensures.0 c.if-branch.true) in
     let more : reverse c.push.new.self.items ≡ x ∷ reverse items =
-        ap reverse (c.in_ok-push.ensures.items ∙ ap (λ (z : PathView). items ++ z ∷ []) c.copy_of.ensures) ∙ reverse-append items (x ∷ []) in
+    ap reverse (c.in_ok-push.ensures.items ∙ ap (λ (z : PathView). items ++ z ∷ []) c.copy_of.ensures) ∙ reverse-append items (x ∷ []) in
     subst (λ (l : List PathView). IsWalked (Somebody who) to scope xs rest l) (sym more)
     (walk_taken p are.0 steps (Somebody who) xs are.2 to scope rest x (reverse items) wanted left)
 
