@@ -9,7 +9,7 @@ import os
 import re
 
 from common import V1
-from escalation import Request, indirect, powers
+from escalation import Request, indirect, paths, powers
 from plugin_access import company, company_export, company_items
 from plugin_questions import stale_with
 from plugin_room import CAUTION, REFUSAL, in_each_shell, of_kinds
@@ -138,12 +138,12 @@ def as_page(it):
     os.symlink(FILTER, os.path.join(it.bin, 'rbacaudit-page'))
     company(it)
     status, out, err = got = it.run('report', '--export', 'prod', '-o', 'html')
-    page = Parts(it.run('page', '--export', 'prod')[1]).data()
-    data = Parts(out).data()
-    it.checked('the page', status == 0 and data['rows'] == page['rows'] and data['findings'] == page['findings'] and page['rows']['count'] > 100, repr(got)[:2000])
-    paths = data['paths']
-    it.checked('with who takes over the whole cluster', lines_in(paths['lines']) == [*indirect(company_export(), Request('', '*', ('resource', '*', '*', '')))]
-               and [answer[0] for answer in paths['answers']] == ['everything in the whole cluster'], repr(paths)[:2000])
+    page, data = (Parts(text).data() for text in (it.run('page', '--export', 'prod')[1], out))
+    it.checked('the page', status == 0 and data == page and len(data['findings']) > 2, repr(got)[:2000])
+    found, lines = company_export(), lines_in(data['paths']['lines'])
+    wanted = {who: [*paths(found, who)] for who in {line.split('\t')[1] for line in powers(found)}}
+    it.checked('with whom everybody takes over', {who: lines[first:end] for _, who, first, end in data['paths']['answers']}
+               == {who: its for who, its in wanted.items() if its} and any(line.split('\t')[1] == '*' for line in lines), repr(data['paths'])[:2000])
     got = on_terminal(it, 'report', '--export', 'prod', '-o', 'html')
     it.checked('not for a terminal', got == (2, '', 'kubectl-rbacaudit: the page goes into a file: kubectl rbacaudit report -o html > access.html\n'), got)
     got = it.run('report', '-o', 'html', trouble=['forbid accounts'])
