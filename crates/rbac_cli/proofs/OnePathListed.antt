@@ -1,5 +1,5 @@
 -- The lines of one path are lines of all paths.
-use Rattle.std.proofs.Common.{◌≡◌, ◌∙◌, ◌++◌, ◌∷◌, [], List, All, Any, ap, inl, inr, subst, sym}
+use Rattle.std.proofs.Common.{◌≡◌, ◌∙◌, ◌++◌, ◌∷◌, [], List, All, Any, Contains, Some, ap, inl, inr, subst, sym}
 use Rattle.std.proofs.lemmas.List.Elements.{All-nil}
 use Rattle.rbac_model.proofs.OwnWords.{any_from}
 use Rattle.rbac_terms.specs.Text.{Text}

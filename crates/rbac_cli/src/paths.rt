@@ -66,8 +66,8 @@ fn listed_of<'p>(
     to: &Option<PathEnd>,
 ) -> Result<Vec<Path<'p>>, AllocError>
     ensures { IfOk result (λ listed. (p : PolicyView) (principals : List Who)
-        (chosen : List PathStep) (who : Who) → ArePathsOf p principals chosen who found.items
-        → AreListed (Somebody who) to.now found.items listed.items) }
+        (chosen : List PathStep) (who : Who) → ArePathsOf p principals chosen who found.entry.items
+        → AreListed (Somebody who) to.now found.entry.items listed.items) }
 {
     match to {
         Some(end) => path_to(alloc, found.as_slice(), &end.what, end.namespace.as_ref()),
