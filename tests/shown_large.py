@@ -117,8 +117,8 @@ def company_rows(room):
 
 
 def company(it, room):
-    """The page of 421 namespaces: at most 15 MB, opened with at most 600 MB, and the same numbers as its rows. How long it takes is measured by
-    bench/page.py."""
+    """The page of 421 namespaces: at most 15 MB, and the same numbers as its rows. How long it takes and how much memory is measured by
+    bench/page.py, in a browser of its own."""
     with tempfile.TemporaryDirectory() as scratch:
         rows, types = company_rows(scratch)
         given = os.path.join(scratch, 'types')
@@ -135,8 +135,6 @@ def company(it, room):
     most = max(Counter(row[0] for row in fields).items(), key=lambda pair: pair[1])[0]
     for view in ('who', 'what', 'watch', 'rows?watch=everything', 'watch?ns=' + place, 'who?who=' + most, 'find?q=team'):
         page.go('#' + view)
-    memory = it.memory()
-    checked('company: the memory', memory <= 600_000_000, str(memory))
     page.is_quiet()
 
 
