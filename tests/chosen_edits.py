@@ -87,6 +87,11 @@ def written(folder, files):
             file.write(text)
 
 
+def text_at(folder, name):
+    with open(os.path.join(folder, name), encoding='utf-8') as file:
+        return file.read()
+
+
 def git(folder, *asked):
     subprocess.run(['git', '-c', 'user.name=t', '-c', 'user.email=t', *asked], cwd=folder, check=True, stdout=subprocess.DEVNULL)
 
@@ -153,6 +158,8 @@ def chosen():
         checked('a commit that is not there', not found and 'there is no commit nothing' in said, said)
 
 
+UNDECIDED = '# undecided: only a stored answer refuses it\n'
+
 # What becomes of each edit, and a body with more than one line that it can be made in.
 KINDS = {
     'goal': ('WRONG', 'refused'), 'answer_that_searches': ('UNFOUND', 'refused'), 'goal_beside_a_stale_answer': ('WRONG STALE', 'refused'),
@@ -174,8 +181,17 @@ def kinds():
         wanted = {'low/' + name: kind for name, (_, kind) in {**KINDS, **in_front}.items()}
         checked('each kind', all(found.get(name) == kind for name, kind in wanted.items()), said)
         checked('what is in no body is tried by itself', found.get('low/of_a_const') == found.get('low/of_a_contract') == 'refused', said)
-        checked('undecided ones are counted by crate, but fail in must-fail/', 'undecided: low 3\n' in said and '8 passed, 4 failed' in said and
-                'FAIL high/of_high.edit: undecided' in said, said)
+        checked('undecided ones are counted by crate, and fail', 'undecided: high 1, low 3\n' in said and '8 passed, 7 failed' in said and
+                'FAIL high/of_high.edit: undecided' in said and 'FAIL low/stale_answer.edit: undecided' in said, said)
+        said, found = tried(folder, sys.executable, 'tools/wrong_bodies.py', '--mark')
+        marked = sorted(name for name in edits if UNDECIDED in text_at(folder, 'crates/low/wrong-bodies/%s.edit' % name))
+        checked('--mark has those of wrong-bodies/ say so', marked == sorted(it for it, (_, kind) in KINDS.items() if kind == 'undecided'), said)
+        checked('one that says so fails in must-fail/ alone', 'undecided: high 1, low 3\n' in said and '8 passed, 4 failed' in said, said)
+        written(folder, {'crates/low/wrong-bodies/goal.edit': UNDECIDED + edits['goal']})
+        said, found = tried(folder)
+        checked('one that says so, and that a goal refuses, fails', "FAIL low/goal.edit: a goal refuses it" in said and '7 passed, 5 failed' in said, said)
+        tried(folder, sys.executable, 'tools/wrong_bodies.py', '--mark')
+        checked('--mark takes the line away', text_at(folder, 'crates/low/wrong-bodies/goal.edit') == edits['goal'])
         for name in ('goal', 'stale_answer'):
             written(folder, {'crates/low/wrong-bodies/%s.edit' % name: '# tried by the gate\n' + edits[name]})
         said, found = tried(folder, sys.executable, 'tools/wrong_bodies.py', '--chosen')

@@ -4,7 +4,8 @@ function.
 An edit is a file of lines `file: PATH`, `old: TEXT` and `new: TEXT`. Each old text stands in its file exactly once,
 after the pairs before it. Proves nothing: `rt ci` tries the edits of must-fail/, of which there are at most 40, since each is a check by
 itself; `tools/wrong_bodies.py --chosen` tries those of wrong-bodies/ with the line `# tried by the gate`, those of a crate by one check,
-and `make wrong-bodies` all. The last line is `N passed, M failed`.
+and `make wrong-bodies` all. One that no goal refuses says so by a line, and isn't one of the gate's. The last line is `N passed, M failed`, and
+the line above says how many don't count, by crate.
 """
 
 import os
@@ -108,6 +109,8 @@ def faults():
     for name in sorted(os.listdir(os.path.join(TOP, 'crates'))):
         crate = os.path.join(TOP, 'crates', name)
         texts, tried = texts_of(crate), [edit for edit in edits_of(crate) if edit.is_tried_by_the_gate()]
+        for edit in tried:
+            yield edit.name, edit.is_undecided and 'the gate tries it, so a goal has to refuse it'
         functions = {function for edit in tried for function in edit.functions_in(texts)}
         for function in public_functions(crate):
             yield '%s::%s' % (name, function), function not in functions and 'the gate tries no wrong body of it'
@@ -128,12 +131,21 @@ def texts_of(crate):
     return texts
 
 
+def undecided():
+    """How many edits of each crate no goal refuses, as they say themselves, of how many."""
+    for name in sorted(os.listdir(os.path.join(TOP, 'crates'))):
+        them = [edit.is_undecided for edit in edits_of(os.path.join(TOP, 'crates', name))]
+        if any(them):
+            yield '%s %d of %d' % (name, sum(them), len(them))
+
+
 def main():
     passed = failed = 0
     for what, fault in faults():
         if fault:
             print('FAIL %s: %s' % (what, fault))
         passed, failed = passed + (not fault), failed + bool(fault)
+    print('undecided: %s' % (', '.join(undecided()) or 'none'))
     print('%d passed, %d failed' % (passed, failed))
     return 1 if failed else 0
 

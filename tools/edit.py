@@ -1,7 +1,7 @@
 """The edits of must-fail/ and wrong-bodies/, and the functions that they change.
 
 An edit is a file of lines `file: PATH`, `old: TEXT` and `new: TEXT`. Each old text stands in its file exactly once, after the pairs
-before it. A line MARK says that the gate tries the edit.
+before it. A line MARK says that the gate tries the edit, and a line UNDECIDED that no goal refuses it.
 
 A line `answer: FUNCTION: GOAL ARGUMENTS = TERM` has a goal of the function answered by this term, as in a proof file. A goal without an
 answer is searched by all that the prover has, and once more to print it, which is most of what an edit costs; a search that has to fail
@@ -13,6 +13,7 @@ import re
 
 TIERS = ('must-fail', 'wrong-bodies')
 MARK = '# tried by the gate'
+UNDECIDED = '# undecided: only a stored answer refuses it'
 # As rt fmt lays a function out: how far it is indented, and its name.
 FUNCTION = re.compile(r'( *)(pub )?(?:pub\([a-z]+\) )?(?:const |unsafe )*fn (\w+)')
 IMPL = re.compile(r'impl\b')
@@ -33,7 +34,7 @@ class Edit:
         file = old = None
         with open(path, encoding='utf-8') as edit:
             lines = edit.read().split('\n')
-        self.is_marked = MARK in lines
+        self.is_marked, self.is_undecided = MARK in lines, UNDECIDED in lines
         for line in lines:
             if line.startswith('file: '):
                 file = line[len('file: '):].strip()
@@ -47,6 +48,14 @@ class Edit:
 
     def is_tried_by_the_gate(self):
         return self.is_marked or os.path.basename(os.path.dirname(self.path)) == TIERS[0]
+
+    def mark_undecided(self, is_undecided):
+        """Puts the line UNDECIDED in front of all others, or takes it away."""
+        with open(self.path, encoding='utf-8') as file:
+            lines = [line for line in file.read().split('\n') if line != UNDECIDED]
+        with open(self.path, 'w', encoding='utf-8') as file:
+            file.write('\n'.join([UNDECIDED] * is_undecided + lines))
+        self.is_undecided = is_undecided
 
     def made_in(self, texts):
         """The texts with this edit, by file; None where an old text isn't there once."""

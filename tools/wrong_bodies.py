@@ -1,6 +1,6 @@
 """Tries the wrong bodies: the prover of a crate has to refuse each edit of its folders must-fail/ and wrong-bodies/.
 
-usage: python3 tools/wrong_bodies.py [--chosen] [--right] [--changed COMMIT] [--log FILE] [--jobs N] [CRATE..]    (no crate: every one)
+usage: python3 tools/wrong_bodies.py [--chosen] [--right] [--changed COMMIT] [--log FILE] [--mark] [--jobs N] [CRATE..]    (no crate: every one)
 
 With --chosen only those that the gate tries: the edits with the line `# tried by the gate`. With --changed only the edits that a change
 since that commit can touch: the edit itself, a file that it edits, or a definition of its crate has changed. How many are left is said.
@@ -12,8 +12,9 @@ With --right the right body is tried in place of each edit with answers of its o
 `rt ci` over a copy builds the libraries, of which it proves only what hasn't passed on this machine. Then edits of different functions
 are tried together (together.py). An edit of no function's body `rt ci` tries by itself, as one of must-fail/. Each edit is told as
 refused, as undecided (only a stored answer no longer fits, which says nothing of the contract), or as failed: not refused, or not
-read. One that every gate tries has failed too if it is undecided. The last line is `N passed, M failed`, and counts no other undecided
-edit; the lines above say how many of each kind there are, by crate.
+read. An undecided edit has failed too, unless its own line UNDECIDED says so and the gate doesn't try it; so has an edit with this line
+that a goal refuses. With --mark these lines are written or taken away as each edit came out. The last line is `N passed, M failed`, and
+counts no undecided edit that says so; the lines above say how many of each kind there are, by crate.
 """
 
 import argparse
@@ -27,7 +28,7 @@ import sys
 
 sys.dont_write_bytecode = True
 from copies import TOP, Copy, listed  # noqa: E402
-from edit import Right, edits_of  # noqa: E402
+from edit import UNDECIDED, Right, edits_of  # noqa: E402
 from together import Crate, Kind, Kit  # noqa: E402
 
 ALONE = re.compile(r'rt: must-fail (\S+/\S+\.edit): (refused, as it must be|BAD EDIT)(.*)')
@@ -73,6 +74,7 @@ def words():
     parser.add_argument('--right', action='store_true')
     parser.add_argument('--changed', metavar='COMMIT')
     parser.add_argument('--log', metavar='FILE')
+    parser.add_argument('--mark', action='store_true')
     parser.add_argument('--jobs', metavar='N', type=int)
     parser.add_argument('crates', nargs='*', metavar='CRATE')
     return parser.parse_args()
@@ -170,7 +172,23 @@ def main():
     if left and not given.right:
         print('%d are tried one by one' % len(left), flush=True)
         try_alone(left, told.tell)
-    return told_right(edits, told.kinds) if given.right else told_all(told.kinds)
+    if given.right:
+        return told_right(edits, told.kinds)
+    if given.mark:
+        mark(told.kinds)
+    return told_all(told.kinds)
+
+
+def mark(kinds):
+    """Has each edit that the gate doesn't try, and that is refused or undecided, say whether it is undecided."""
+    for edit, kind in kinds.items():
+        if kind in (Kind.REFUSED, Kind.UNDECIDED) and not edit.is_tried_by_the_gate() and edit.is_undecided != (kind is Kind.UNDECIDED):
+            edit.mark_undecided(kind is Kind.UNDECIDED)
+
+
+def is_as_it_says(edit, kind):
+    """Whether an edit is refused, or undecided, as its lines have it."""
+    return kind is (Kind.UNDECIDED if edit.is_undecided and not edit.is_tried_by_the_gate() else Kind.REFUSED)
 
 
 def told_right(edits, kinds):
@@ -187,12 +205,14 @@ def told_all(kinds):
     for crate, them in sorted(by_crate(kinds).items()):
         counts = collections.Counter(kinds[edit].name.lower() for edit in them)
         print('%s: %d edits: %s' % (crate, len(them), ', '.join('%d %s' % (count, kind) for kind, count in sorted(counts.items()))))
-    undecided = by_crate(edit for edit, kind in kinds.items() if kind is Kind.UNDECIDED and not edit.is_tried_by_the_gate())
-    failed = [edit for edit, kind in kinds.items() if kind is not Kind.REFUSED and edit not in undecided.get(edit.crate, [])]
-    for edit in failed:
-        print('FAIL %s: %s' % (edit.name, kinds[edit].value))
+    for edit, kind in kinds.items():
+        if not is_as_it_says(edit, kind):
+            print('FAIL %s: %s' % (edit.name, kind.value if kind is not Kind.REFUSED else 'a goal refuses it: its line %r is wrong' % UNDECIDED))
+    undecided = by_crate(edit for edit, kind in kinds.items() if kind is Kind.UNDECIDED)
     print('undecided: %s' % (', '.join('%s %d' % (crate, len(them)) for crate, them in sorted(undecided.items())) or 'none'))
-    print('%d passed, %d failed' % (list(kinds.values()).count(Kind.REFUSED), len(failed)))
+    as_they_say = [kind for edit, kind in kinds.items() if is_as_it_says(edit, kind)]
+    failed = len(kinds) - len(as_they_say)
+    print('%d passed, %d failed' % (as_they_say.count(Kind.REFUSED), failed))
     return 1 if failed else 0
 
 
