@@ -5,13 +5,14 @@ Tables, words and summaries are written by hand from docs/FORMATS.md, and so are
 
 import json
 import os
+import pty
 import random
 import re
 import shutil
 import subprocess
 import sys
 
-from common import V1, checked
+from common import PROGRAM, V1, checked
 from plugin_room import PLUGIN, in_each_shell, of_kinds
 from plugin_terminal import (ANSWERS, SEEN_BINDING, SEEN_ROLE, SEEN_TYPE, SEEN_USER, TYPE, USER, hostile, in_tmux,
                              on_terminal)
@@ -322,6 +323,37 @@ def colors(it):
     it.checked('colors: none in lines', '\x1b' not in got[1] and got[0] == 1, got)
 
 
+# The program, but a comparison takes its time.
+SLOW = """#!/bin/sh
+[ "$1" != diff ] || sleep 1.5
+exec '%s' "$@"
+"""
+
+
+@in_each_shell
+def awaited(it):
+    """If a comparison takes more than a second, a terminal says how many lines can come: here 2 subjects with 2 verbs, 2 resources and 3 names,
+    and a subject with one verb and one resource."""
+    exported(it, 'before', role('pods', rule('get', 'pods')), role('none', rule('get', 'nodes')), bound('old', 'pods', 'kim'))
+    exported(it, 'after', role('many', rule('get list', 'pods secrets', names=('a', 'b', 'c')), namespace='dev'),
+             bound('new', 'many', 'eve', 'ann', namespace='dev', of='Role'))
+    for name, text, wanted in (('at once', "#!/bin/sh\nexec '%s' \"$@\"\n", []), ('slow', SLOW, ['kubectl-rbacaudit: comparing; at most 25 lines are to come'])):
+        os.remove(os.path.join(it.bin, 'rbacaudit'))
+        it.write(text % PROGRAM, it.at('bin'), 'rbacaudit')
+        os.chmod(os.path.join(it.bin, 'rbacaudit'), 0o755)
+        ours, terminal = pty.openpty()
+        done = subprocess.run([it.shell, PLUGIN, 'diff', '--export', 'before', '--export', 'after', '-o', 'json'], cwd=it.work, env=it.environment(),
+                              stdin=subprocess.DEVNULL, stdout=subprocess.PIPE, stderr=terminal, check=False, timeout=60)
+        os.write(terminal, b'end')
+        said = ''
+        while not said.endswith('end'):
+            said += os.read(ours, 10000).decode()
+        os.close(terminal)
+        os.close(ours)
+        it.checked('a comparison that is %s' % name, (done.returncode, done.stdout.count(b'\n')) == (1, 25)
+                   and [part for part in said.split('\r') if part.strip()] == [*wanted, 'end'], (said, done))
+
+
 # ---- summaries
 
 def word_matches(word, text):
@@ -515,4 +547,4 @@ def in_a_terminal():
         in_terminals()
 
 
-CHECKS = [formats, hostile_names, on_terminals, lacking, refused, without_filter, statuses, words_below, odd_words, colors, summaries, random_summaries, steps, in_a_terminal]
+CHECKS = [formats, hostile_names, on_terminals, lacking, refused, without_filter, statuses, words_below, odd_words, colors, awaited, summaries, random_summaries, steps, in_a_terminal]

@@ -5,6 +5,7 @@ from __future__ import annotations
 import json
 import os
 import re
+import select
 from collections.abc import Callable, Iterable, Iterator
 from dataclasses import dataclass, field
 
@@ -22,6 +23,7 @@ if TYPE_CHECKING:
 FAULT = re.compile(r'^rbacaudit: file (\d+)(?: item (\d+))?(?:: (.*)| .*)$', re.M)
 MOST_COUNTED = 1000000
 REPEATED = re.compile(rb'^[^\t\n]*\t(?!-\t)[^\t\n]*\t.*\tClusterRoleBinding/[^\t\n]*$', re.M)
+LONG = 1    # the seconds after which a terminal says what is awaited
 WHOLE = ('sarif', 'dot')    # forms without lines, whose texts are escaped already
 LAST = re.compile(rb'^(?:end|next\t.*)$', re.M)
 
@@ -89,11 +91,23 @@ def name_file(asking: Asking, path: str, found: re.Match[str]) -> None:
 
 # ---- how an answer is shown
 
-def ask_shown(asking: Asking, line: list[str], files: list[str], counts: Counts | None = None) -> int:
-    """Asks, and shows what rbacaudit prints as it comes; the status."""
+def ask_shown(asking: Asking, line: list[str], files: list[str], counts: Counts | None = None, awaited: Callable[[], str] | None = None) -> int:
+    """Asks, and shows what rbacaudit prints as it comes; the status. `awaited` tells what comes, if that takes its time."""
+    def take(child: Child) -> int:
+        if awaited:
+            wait_for(asking, child, awaited)
+        return show_lines(asking, lines_of(child, counts))
     is_plain = counts is None and asking.options.format == 'tsv' and not os.isatty(1)
-    status, shown = ask_as_it_comes(asking, line, files, None if is_plain else lambda child: show_lines(asking, lines_of(child, counts)))
+    status, shown = ask_as_it_comes(asking, line, files, None if is_plain else take)
     return max(status, shown) if status <= 1 else status
+
+
+def wait_for(asking: Asking, child: Child, awaited: Callable[[], str]) -> None:
+    """Returns when a child has begun to print. If that takes more than a second, a terminal says what is awaited."""
+    if os.isatty(2) and not select.select([child.stdout], [], [], LONG)[0]:
+        asking.session.progress.draw(awaited())
+        select.select([child.stdout], [], [])
+        asking.session.progress.erase()
 
 
 def ask_as_it_comes(asking: Asking, line: list[str], files: list[str], take: Callable[[Child], int] | None) -> tuple[int, int]:

@@ -3,6 +3,7 @@
 from __future__ import annotations
 
 import json
+from collections import Counter
 from collections.abc import Iterator
 
 from .answer import Asking, ask, ask_shown, show_text
@@ -11,7 +12,7 @@ from .escapes import bytes_of
 from .export import open_export
 from .fields import STEP_NAMES, is_gathered, powers_of, rows_of
 from .manifests import (Item, Manifests, check_inputs, check_namespace, is_of_rbac, key_of, key_of_item, labels_of, list_text, name_path,
-                        need_held, take_manifests)
+                        need_held, role_of, take_manifests)
 from .options import Options, choose_format, read_options
 from .processes import Session
 from .question import Question, check_cluster
@@ -134,8 +135,8 @@ def keep_labels(asking: Asking, put: Manifests, files: list[str]) -> None:
     """Gives the cluster roles of a change the labels that kubectl apply leaves, by the files of an export."""
     roles = {key_of_item(item): at for at, item in enumerate(put.items) if is_of_rbac(item) and item['kind'] == 'ClusterRole'}
     kept = []
-    for exported in exported_roles(files) if roles else ():
-        key = key_of('ClusterRole', '', text_in(exported, 'metadata', 'name'))
+    for exported, kind in items_of(files) if roles else ():
+        key = key_of(kind, '', text_in(exported, 'metadata', 'name'))
         if key not in roles:
             continue
         role = put.items[roles[key]]
@@ -150,13 +151,11 @@ def keep_labels(asking: Asking, put: Manifests, files: list[str]) -> None:
         asking.session.report('kubectl apply leaves labels that only the cluster has: %s' % first_three(kept))
 
 
-def exported_roles(files: list[str]) -> Iterator[Item]:
-    """The cluster roles of an export."""
+def items_of(files: list[str]) -> Iterator[tuple[Item, str]]:
+    """The objects of an export, each with its kind."""
     for document in map(read_document, files):
         for number in range(len(list_in(document, 'items'))):
-            item, kind = item_of(document, number + 1)
-            if kind == 'ClusterRole':
-                yield item
+            yield item_of(document, number + 1)
 
 
 # ---- the answer
@@ -166,7 +165,7 @@ def compare(asking: Asking, words: list[str], old: Manifests | None = None, new:
     options = asking.options
     line, files = ['diff', *words], [word for word in words if not word.startswith('--')]
     if not options.summary and not options.fail_on and options.format != 'sarif':
-        return ask_shown(asking, line, files)
+        return ask_shown(asking, line, files, awaited=lambda: 'comparing; at most {:,} lines are to come'.format(most_lines(files)))
     done = ask(asking, line, files)
     return show_rows(asking, rows_of(done.out), old, new) if done.status < 2 else done.status
 
@@ -180,6 +179,25 @@ def show_rows(asking: Asking, rows: list[list[str]], old: Manifests | None, new:
     else:
         text = summarize(rows) if options.summary else ''.join('\t'.join(row) + '\n' for row in rows)
     return show_text(asking, text) or int(fails(rows, options.fail_on))
+
+
+def most_lines(files: list[str]) -> int:
+    """How many lines of diff there can be: one for each permission that a binding of these files gives to one of its subjects."""
+    sizes, bindings = Counter[str](), list[Item]()
+    for item, kind in items_of(files):
+        if kind.endswith('Binding'):
+            bindings.append(item)
+        else:
+            name = key_of(kind, text_in(item, 'metadata', 'namespace'), text_in(item, 'metadata', 'name'))
+            sizes[name] += sum(map(size_of, list_in(item, 'rules')))
+    return sum(sizes[role_of(binding)] * len(list_in(binding, 'subjects')) for binding in bindings)
+
+
+def size_of(rule: Item) -> int:
+    """How many permissions a rule gives: one for each verb with each URL, or with each API group, resource and object name."""
+    verbs, groups, resources, names, urls = (
+        len(list_in(rule, name)) for name in ('verbs', 'apiGroups', 'resources', 'resourceNames', 'nonResourceURLs'))
+    return verbs * (urls + groups * resources * max(names, 1))
 
 
 # ---- how much who gains and loses where, and what --fail-on makes of it
