@@ -13,5 +13,5 @@ complete -c rbacaudit-page -l notices -r -F -d 'lines to show at the top, such a
 complete -c rbacaudit-page -l about -r -F -d 'the about.txt of an export, to show cluster, server and time'
 complete -c rbacaudit-page -l title -x -d 'the title of the page (default: Who can do what)'
 complete -c rbacaudit-page -l output -r -F -d 'write the page into this file, whole or not at all'
-complete -c rbacaudit-page -l plain -d 'pack nothing, for browsers before 2023'
+complete -c rbacaudit-page -l plain -d 'pack nothing, for Firefox before version 113'
 complete -c rbacaudit-page -l watched -d 'print the watch list: step, verb, API group and resource'

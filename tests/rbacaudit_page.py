@@ -533,6 +533,9 @@ def helped():
           'output', 'plain', 'watched'])
     man = contents('man', 'rbacaudit-page.1')
     same('man: the options', re.findall(r'^\.TP\n.*\\-\\-(\w+)\\fR', man, re.M), [*options])
+    synopsis = man.partition('.SH SYNOPSIS\n')[2].partition('.SH ')[0]
+    same('man: the options of the synopsis', sorted(re.findall(r'\[\\fB\\-\\-(\w+)|^\.B \\-\\-(\w+)$', synopsis, re.M)),
+         sorted((name, '') if name != 'watched' else ('', name) for name in options if name != 'help'))
     checked('man: the default of --title', 'Default: Who can do what.' in man)
     same('man: the most parts, bytes of names, and lines of paths',
          [int(text.replace(',', '')) for text in re.findall(r'[Mm]ore than ([\d,]+) parts|have ([\d,]+) bytes|More than ([\d,]+) lines', man)

@@ -75,7 +75,7 @@ def read_options(words: Sequence[str]) -> argparse.Namespace:
     for name, value, text in OPTIONS:
         parser.add_argument('--' + name, metavar=value, help=text, action='append' if name == 'paths' else 'store',
                             default={'title': 'Who can do what', 'paths': []}.get(name))
-    parser.add_argument('--plain', action='store_true', help='pack nothing, for browsers before 2023')
+    parser.add_argument('--plain', action='store_true', help='pack nothing, for Firefox before version 113')
     parser.add_argument('--watched', action='store_true', help='print the watch list: step, verb, API group and resource')
     return parser.parse_args(words)
 
