@@ -13,7 +13,7 @@ from typing import Any
 from . import page
 from .answer import Asking, ask_well
 from .documents import item_of, list_in, read_document
-from .escapes import bytes_of, escaped, on_one_line
+from .escapes import bytes_of, on_one_line
 from .export import open_export, write_about
 from .fields import rows_of, text_of
 from .options import choose_format, read_options
@@ -122,8 +122,9 @@ def json_report(report: Report) -> str:
 # ---- as Markdown
 
 def code(text: str) -> str:
-    """A name as Markdown shows it as it is: in a span of code, with neither what ends that nor what ends a cell."""
-    return '`%s`' % BLANK.sub(r'\\x20', escaped(text)).replace('`', '\\x60').replace('|', '\\x7c') if text != '-' else ''
+    """A name as Markdown shows it as it is: in a span of code, with neither what ends that nor what ends a cell. (about.txt and incomplete.txt of
+    somebody else's export may have characters that a terminal obeys)"""
+    return '`%s`' % BLANK.sub(r'\\x20', on_one_line(text)).replace('`', '\\x60').replace('|', '\\x7c') if text != '-' else ''
 
 
 def table(heads: str, rows: Sequence[Sequence[str]]) -> Iterator[str]:
@@ -151,7 +152,7 @@ def markdown(report: Report, folder: str) -> Iterator[str]:
     yield from part('Who takes over the whole cluster', TAKEOVERS % (has, len(people) - has), 'STEPS WHO TO WHERE STEP BINDING',
                     [[row[0], code(row[1]), *map(code, row[3:7])] for row in people],
                     "who-can --indirect%s -A '*' '*.*'", 'paths%s WHO')
-    yield from part('Powers by person', 'Ways to take over somebody else or to gain permissions. `*` is the whole cluster.', 'WHO WHERE POWERS',
+    yield from part('Powers of users and groups', 'Ways to take over somebody else or to gain permissions. `*` is the whole cluster.', 'WHO WHERE POWERS',
                     [[code(who), code(where), ', '.join(steps)] for (who, where), steps in report.powers.items()], 'powers%s', 'access%s WHO')
     yield from part('Findings', '', 'LEVEL CODE NAME OBJECT PLACE DETAIL',
                     [[level_of(row), *row[:2], *map(code, row[2:])] for row in report.findings], 'lint%s')

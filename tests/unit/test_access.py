@@ -43,7 +43,8 @@ class Quoting(unittest.TestCase):
             self.assertEqual(dot.quoted(text), wanted)
 
     def test_markdown(self):
-        for text, wanted in (('a|`b', '`a\\x7c\\x60b`'), (' a  b ', '`\\x20a \\x20b\\x20`'), ('-', ''), ('\\x2d', '`\\x2d`'), ('\u202ea', '`\\xe2\\x80\\xaea`')):
+        for text, wanted in (('a|`b', '`a\\x7c\\x60b`'), (' a  b ', '`\\x20a \\x20b\\x20`'), ('-', ''), ('\\x2d', '`\\x2d`'), ('\u202ea', '`\\xe2\\x80\\xaea`'),
+                             ('a\x1b[2J\rb\x7f\n', '`a?[2J?b?\\n`')):
             self.assertEqual(report.code(text), wanted)
 
 
