@@ -58,7 +58,7 @@ OPTIONS = (
     ('lint', 'FILE', 'findings to show with the rows: lines of rbacaudit lint'),
     ('diff', 'FILE', 'changes to show with the rows: lines of rbacaudit diff'),
     ('paths', 'FILE', 'paths to show with the rows: lines of rbacaudit paths or who-can --indirect'),
-    ('reach', 'FILE', 'how far principals reach whose paths the page has in part (see the man page)'),
+    ('reach', 'FILE', 'how far principals reach whose paths are here only in part (see man)'),
     ('unasked', 'FILE', 'principals whose paths the page lacks: u:NAME or g:NAME'),
     ('named', 'FILE', 'holders limited to object names: verb, API group, resource, who, binding'),
     ('namespaced', 'FILE', 'types that have namespaces: API group and resource'),
