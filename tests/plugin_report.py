@@ -156,6 +156,9 @@ def fresh(it):
     status, out, err = got = it.run('report')
     parts = parts_in(out)
     it.checked('of a cluster', (status, err) == (0, '') and rows_in(parts[TITLES[0]])[:2] == [['context', 'far away'], ['server', 'https://10.0.0.1:6443']], got)
+    it.checked('what it reads, and what it doesn\'t', rows_in(parts[TITLES[0]])[-7:] == [
+        ['ClusterRole', '6'], ['ClusterRoleBinding', '2'], ['Role', '2'], ['RoleBinding', '3'], ['Namespace', 'not read'], ['ServiceAccount', '2'],
+        ['APIResourceList', 'not read']], parts[TITLES[0]])
     it.checked('its commands have no export', "kubectl rbacaudit who-can --indirect -A '*' '*.*'" in parts[TITLES[1]][2], parts)
     it.checked('dana alone', [row[:2] for row in rows_in(parts[TITLES[1]])] == [['0', 'u:dana@example.com']], parts)
     it.checked('nothing is stale', parts[TITLES[4]] == (['None.'], [], ['kubectl rbacaudit lint --only L6']), parts[TITLES[4]])
@@ -170,11 +173,13 @@ def fresh(it):
     it.checked('--partial', status == 0 and err.endswith(CAUTION) and '- A part of the export is missing: `%s`.' % (
         said % '').replace('`', '\\x60').replace('|', '\\x7c') in parts_in(out)[TITLES[6]][0], got)
     report = json.loads(it.run('report', '--export', 'prod', '--partial', '-ojson')[1])
-    it.checked('--partial, as JSON', 'A part of the export is missing: %s.' % (said % '') in report['misses'] and report['counts']['ServiceAccount'] == 0, report)
+    it.checked('--partial, as JSON', 'A part of the export is missing: %s.' % (said % '') in report['misses'] and report['counts']['ServiceAccount'] is None, report)
     it.run('export', '-n', 'shop', 'part')
     status, out, err = got = it.run('report', '--export', 'part')
     it.checked('one namespace', status == 0 and 'knows no other' in err and '- The export has the namespace `shop` alone.' in parts_in(out)[TITLES[6]][0]
                and ['only', 'shop'] in rows_in(parts_in(out)[TITLES[0]]), got)
+    it.checked('one namespace: how many objects', rows_in(parts_in(out)[TITLES[0]])[-7:] == [['ClusterRole', '6'], ['ClusterRoleBinding', '2'], [
+        'Role', '1'], ['RoleBinding', '2'], ['Namespace', '1'], ['ServiceAccount', '1'], ['APIResourceList', '4']], parts_in(out)[TITLES[0]])
     it.serve({'cluster': stale_with('get', 'use'), 'namespaced': of_kinds([])})
     report = json.loads(it.run('report', '-o', 'json')[1])
     it.checked('a stale aggregate', report['stale_aggregates'] == ['ClusterRole/a'], report)

@@ -2,7 +2,8 @@
 
 import unittest
 
-from rbacaudit_kubectl import access, dot, report
+from rbacaudit_kubectl import access, dot, fields, report
+from rbacaudit_kubectl.terminal import Refused
 
 
 def lines(*rows):
@@ -35,6 +36,24 @@ class Accesses(unittest.TestCase):
         for binding, lists, wanted in (('RoleBinding/a/b', '[get] [-] [secrets,pods] [] []', [False, True]), ('RoleBinding/cluster/b', '[create] [-] [secrets] [] []', [False]),
                                        ('ClusterRoleBinding/b', '[create] [-] [secrets] [] []', [True]), ('ClusterRoleBinding/b', '[create] [-] [secrets] [x] []', [False])):
             self.assertEqual([it.has_power for it in access.accesses_of(lines((binding, lists)), '')[0]], wanted)
+
+
+    def test_all_powers(self):
+        groups, resources = ({text.partition('.')[at] or '-' for _, _, types, _ in fields.STEPS for text in types.split()} for at in (2, 0))
+        words = [*resources, *('*/' + word.partition('/')[2] for word in resources if '/' in word), '*', '*/x', 'x', 'x/exec', 'pods/x', '-']
+        for binding in ('ClusterRoleBinding/b', 'RoleBinding/kube-system/b', 'RoleBinding/a/b'):
+            row, *_ = lines((binding, '[*] [] [] [] []'))
+            found = [access.has_power(row, group, word) for group in (*groups, '*', 'x') for word in words]
+            self.assertEqual(found, [bool(fields.powers_of('rules', [*row[:6], '[%s]' % group, '[%s]' % word, *row[8:]]))
+                                     for group in (*groups, '*', 'x') for word in words])
+            self.assertTrue(any(found) and not all(found))
+
+    def test_size(self):
+        many = '[%s]' % ','.join('x%d' % at for at in range(500)), '[%s]' % ','.join('x%d' % at for at in range(1000))
+        rows = lines(('ClusterRoleBinding/b', '[get] %s %s [] []' % many))
+        access.check_size(rows)
+        with self.assertRaises(Refused):
+            access.check_size([*rows, *lines(('ClusterRoleBinding/b', '[get] [-] [x] [] []'))])
 
 
 class Quoting(unittest.TestCase):
