@@ -26,7 +26,9 @@ from .show import Reader, json_of, objects_of
 from .table import BLANK
 from .terminal import Refused, print_text
 
-KINDS = ('ClusterRole', 'ClusterRoleBinding', 'Role', 'RoleBinding', 'Namespace', 'ServiceAccount')
+# The kinds of an export, with the file of each.
+KINDS = {'ClusterRole': 'cluster.json', 'ClusterRoleBinding': 'cluster.json', 'Role': 'namespaced.json', 'RoleBinding': 'namespaced.json',
+         'Namespace': 'namespaces.json', 'ServiceAccount': 'accounts.json'}
 LEVELS = ('error', 'warning', 'note')
 # Whoever may do this has everything in the whole cluster.
 EVERYTHING = ['who-can', '--indirect', '-A', '--', '*', '*.*']
@@ -47,7 +49,7 @@ STALE = 'Aggregated roles are stale: the cluster grants what is written in them,
 class Report:
     """What a report has. All texts of rows are fields."""
     about: dict[str, str]
-    counts: dict[str, int]
+    counts: dict[str, int | None]           # of objects of each kind: nothing if the export has no file of them
     takeovers: list[list[str]]              # lines of who-can --indirect
     powers: dict[tuple[str, str], list[str]]    # by who and where
     findings: list[list[str]]
@@ -90,13 +92,15 @@ def level_of(finding: Sequence[str]) -> str:
     return next(rule.level for rule in LINT if rule.id == finding[0])
 
 
-def counts_of(asking: Asking) -> dict[str, int]:
-    """How many objects the export has of each kind, and how many API resource lists."""
+def counts_of(asking: Asking) -> dict[str, int | None]:
+    """How many objects the export has of each kind, and how many API resource lists: nothing where none were read."""
     kinds: Counter[str] = Counter()
-    for path in asking.files('cluster.json', 'namespaced.json', 'namespaces.json', 'accounts.json'):
+    for path in asking.files(*dict.fromkeys(KINDS.values())):
         document = read_document(path)
-        kinds.update(item_of(document, place)[1] for place in range(1, len(list_in(document, 'items')) + 1))
-    return {**{kind: kinds[kind] for kind in KINDS}, 'APIResourceList': len(asking.files('api'))}
+        # (the namespace of an export of one is no list)
+        kinds.update(item_of(document, place)[1] for place in range(1, len(list_in(document, 'items')) + 1) or [0])
+    counts = {kind: kinds[kind] if kinds[kind] or asking.files(name) else None for kind, name in KINDS.items()}
+    return {**counts, 'APIResourceList': len(asking.files('api')) or None}
 
 
 # ---- as JSON
@@ -146,7 +150,7 @@ def markdown(report: Report, folder: str) -> Iterator[str]:
 
     yield '# Access report'
     yield from part('What was read', '', 'WHAT VALUE', [[name, code(text)] for name, text in report.about.items()] +
-                    [[kind, str(count)] for kind, count in report.counts.items()], 'universe%s')
+                    [[kind, 'not read' if count is None else str(count)] for kind, count in report.counts.items()], 'universe%s')
     people = [row for row in report.takeovers if row[1].startswith(('u:', 'g:'))]
     has = len([row for row in people if row[0] == '0'])
     yield from part('Who takes over the whole cluster', TAKEOVERS % (has, len(people) - has), 'STEPS WHO TO WHERE STEP BINDING',
