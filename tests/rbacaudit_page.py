@@ -23,7 +23,7 @@ import time
 
 from common import TOP, checked, skipped, tested
 from plugin_page import (plugin_files, plugin_names, plugin_notices, plugin_pages, plugin_parts, plugin_places, plugin_progress, plugin_reach,
-                         plugin_refusals, plugin_stale, plugin_types)
+                         plugin_refusals, plugin_stale, plugin_strange_reach, plugin_types)
 from shown import in_browser
 sys.path.append(os.path.join(TOP, 'plugin'))
 from rbacaudit_kubectl.page_rows import MOST_PARTS, MOST_TEXT, Rows  # noqa: E402
@@ -619,4 +619,4 @@ if __name__ == '__main__':
                     path_limit, watch_list, parts_limit, memory, limits, output, drawn,
                     terminals, helped, installed, plugin_pages, plugin_names, plugin_types, plugin_notices,
                     plugin_places,
-                    plugin_files, plugin_progress, plugin_reach, plugin_parts, plugin_refusals, plugin_stale, colours, in_browser))
+                    plugin_files, plugin_progress, plugin_reach, plugin_strange_reach, plugin_parts, plugin_refusals, plugin_stale, colours, in_browser))
