@@ -123,7 +123,7 @@ def company_rows(room):
 
 
 def company(it, room):
-    """The page of 421 namespaces: at most 15 MB, and the same numbers as its rows. How long it takes and how much memory is measured by
+    """The page of 421 namespaces: at most 2 MB, and the same numbers as its rows. How long it takes and how much memory is measured by
     bench/page.py, in a browser of its own."""
     with tempfile.TemporaryDirectory() as scratch:
         rows, types = company_rows(scratch)
@@ -133,7 +133,7 @@ def company(it, room):
         text = made(rows, '--namespaced', given)[1]
     checked('company: the rows of a company', len(rows) == 1_706_964, str(len(rows)))
     page = Shown(it, room, 'company', text)
-    checked('company: the size', len(text) <= 15_000_000, str(len(text)))
+    checked('company: the size', len(text) <= 2_000_000, str(len(text)))
     fields = [row.split('\t') for row in rows]
     company_counts(it, page, fields)
     place = max(Counter(row[1] for row in fields if row[1] != '-').items(), key=lambda pair: pair[1])[0]
