@@ -234,6 +234,9 @@ def statuses(it):
     it.checked('a FILE', [line['resource'] for line in objects_in(it.run('access', 'u:eve', 'more.json', '--export', 'prod', '-o', 'json')[1].encode())] == ['pods/log'],
                it.run('access', 'u:eve', 'more.json', '--export', 'prod', '-o', 'json'))
     it.expect('a namespace that is not there', ['access', '--export', 'prod', CI_KEY, '-n', 'shpo'], 0, '', NO_SPACE % 'shpo')
+    it.run('export', 'spoilt')
+    it.write('{', 'spoilt', 'api-apps-v1.json')
+    it.expect('a bad API resource list, which no rule needs', ['access', '--export', 'spoilt', CI_KEY, '-n', 'shop'], 0, CI)
     os.remove(os.path.join(it.work, 'prod', 'namespaced.json'))
     missing = 'kubectl-rbacaudit: there is no namespaced.json in prod\n'
     it.expect('a part is missing', ['access', '--export', 'prod', 'u:dana@example.com'], 2, '', missing + REFUSAL)

@@ -9,7 +9,6 @@ from .answer import Asking, ask_well, open_question
 from .documents import first_three
 from .escapes import bytes_of
 from .fields import POWER_GROUPS, POWER_RESOURCES, in_field, in_key, place_of, powers_of, rows_of, text_of, words_of
-from .listed import list_types
 from .options import choose_format
 from .processes import Session
 from .question import accept_words, check_cluster, read_question
@@ -183,9 +182,12 @@ def access_command(session: Session, words: list[str]) -> int:
 
 
 def on_scope(asking: Asking, rows: Iterable[Sequence[str]]) -> Iterator[str]:
-    """Cluster-scoped types that rules of RoleBindings name, where the export tells which these are."""
+    """Cluster-scoped types that rules of RoleBindings name, where the export tells which these are. (lists that rbacaudit refuses tell nothing: the
+    answer needs none)"""
+    from .remarks import list_there
     named = {(group, resource) for row in rows if place_of(row[0]) for group in words_of(row[6]) for resource in words_of(row[7])}
-    files = asking.files('api') if named else []
-    known = {(in_field(it.group), in_field(it.name)) for it in list_types(asking, files) if not it.is_namespaced} if files else set()
+    listed = list_there(asking, 'api', 'resources') or () if named else ()
+    scopes = {(in_field(it['group']), in_field(it['resource'])): it['namespaced'] for it in listed}
+    known = {type_ for type_, is_namespaced in scopes.items() if not is_namespaced}
     if named & known:
         yield SCOPED % first_three('.'.join(filter(None, (text_of(name), text_of(group)))) for group, name in named & known)
