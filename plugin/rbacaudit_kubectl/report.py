@@ -41,7 +41,7 @@ MISSES = [(text, '') for text in (
 GAP, ALONE = 'A part of the export is missing: %s.', 'The export has the namespace %s alone.'
 OF_SYSTEM = "Findings about Kubernetes' own objects are left out: %s."
 TAKEOVERS = ('%d users and groups have everything in the whole cluster (0 steps), and %d take it over step by step. Each line has the first step of '
-             'a shortest path: whom or what WHO takes over, and by which binding. As TO, `*` is everything.')
+             'a shortest path: whom or what WHO takes over, and by which binding. A star as TO is everything.')
 STALE = 'Aggregated roles are stale: the cluster grants what is written in them, and this report has what they gather.'
 
 
