@@ -39,7 +39,7 @@ calls:
 wrong-bodies:
 	python3 tools/wrong_bodies.py $(if $(CHANGED),--changed "$(CHANGED)") $(CRATE)
 
-# The program, proved and compiled: from nothing 50 to 80 minutes of four cores; what was proved before on this machine and is unchanged is kept.
+# The program, proved and compiled: from nothing 50 to 75 minutes of four cores; what was proved before on this machine and is unchanged is kept.
 build:
 	@python3 tools/build.py
 

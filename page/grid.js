@@ -123,7 +123,7 @@ function legend() {
         make('b', {class: 'other'}, '·'), ' any other verb  ',
         make('b', {class: 'read named'}, 'g'),
         ' for some object names only ', make('b', {class: 'read everywhere'}, 'g'),
-        ' everywhere, by a ClusterRoleBinding. A cell tells its rows and bindings.');
+        ' everywhere, by a ClusterRoleBinding. Click a cell for its rows and bindings.');
 }
 
 // ---- one cell

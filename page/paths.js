@@ -177,7 +177,7 @@ function missedNodes() {
     const {unasked} = PAGE;
     const nobody = 'Whoever isn’t listed can take over nobody and nothing';
     return unasked === null ? [nobody + ', or wasn’t asked about.']
-        : [nobody + ', but for what the groups they are in can. ', unasked.length ? make('b', {class: 'missed'},
+        : [nobody + ', except as a member of a group that is. ', unasked.length ? make('b', {class: 'missed'},
         counted(unasked.length, 'principal'), ' with a power weren’t asked about: ',
         namesNodes(unasked.map(textOf), 5), '.') : 'Everybody with a power was asked about.'];
 }

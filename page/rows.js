@@ -242,5 +242,5 @@ function insideOf(filter) {
     const mask = ROWS.mask('namespace', filter);
     const isExact = filter.startsWith('=') && filter !== '=-';
     return mask[EVERYWHERE.cluster] || !isExact && !mask.includes(1) ? null
-        : {mask, place: ROWS.words.namespace.indexOf(filter.slice(1))};
+        : {mask, place: isExact ? ROWS.words.namespace.indexOf(filter.slice(1)) : -1};
 }

@@ -99,7 +99,9 @@ class Everywhere {
 // Whether a type is a URL, or one of Kubernetes that has no namespaces, or a subresource of one.
 function isOfCluster(type) {
     const [group, resource] = type.split('\t');
-    const known = PAGE.cluster[group === '-' ? '' : group] || [];
+    const name = group === '-' ? '' : group;
+    // (a group may have the name of something that every object has, such as constructor)
+    const known = Object.hasOwn(PAGE.cluster, name) ? PAGE.cluster[name] : [];
     return resource.startsWith('/') || known.includes(resource.split('/')[0]);
 }
 

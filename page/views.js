@@ -74,7 +74,7 @@ const MOST_OPTIONS = 500;
 // The namespaces of the page, in order. The last is any that has no rows of its own, where only that
 // holds which holds everywhere.
 function namespacesOf() {
-    const words = ROWS.words.namespace.filter(word => word !== '-').toSorted(byText);
+    const words = ROWS.words.namespace.filter(word => word !== '-').sort(byText);
     return EVERYWHERE.isPlain || !EVERYWHERE.isAny ? words
         : [...words, OTHER];
 }

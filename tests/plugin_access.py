@@ -21,8 +21,8 @@ from plugin_terminal import SEEN_TYPE, TYPE, USER, hostile, on_terminal
 from show import NAMES, colored, objects_in
 
 CLUSTER = os.path.join(TOP, 'examples', 'cluster')
-SCOPED = ('kubectl-rbacaudit: cluster-scoped types, of which RoleBindings grant no more than use, bind of cluster roles, and the object of a '
-          'namespace itself: %s\n')
+SCOPED = ('kubectl-rbacaudit: RoleBindings name cluster-scoped types: %s; of such types, a RoleBinding grants only use, bind of cluster roles, and the '
+          'object of its own namespace\n')
 
 
 # ---- the larger example
@@ -137,8 +137,9 @@ def tables(it):
     company(it)
     it.expect('verbs beside the usual ones', ['access', '--export', 'prod', '-n', 'payments', 'g:payments-leads'], 0, LEADS,
               SCOPED % 'clusterroles.rbac.authorization.k8s.io')
-    it.expect('places', ['access', '--export', 'prod', 'g:system:authenticated', '-n', 'search', '-o', 'table'], 0, it.run(
-        'access', '--export', 'prod', 'g:system:authenticated', '-A')[1])
+    whole = it.run('access', '--export', 'prod', 'g:system:authenticated', '-A')[1]
+    it.checked('what holds in the whole cluster', re.match('RESOURCE +GROUP ', whole) and '\nselfsubjectaccessreviews ' in whole and '\n\nURL ' in whole, whole)
+    it.expect('holds in a namespace', ['access', '--export', 'prod', 'g:system:authenticated', '-n', 'search', '-o', 'table'], 0, whole)
     status, out, err = got = it.run('access', '--export', 'prod', 'u:system:serviceaccount:ci:deploy-payments')
     rows = [re.sub(' +$', '', line) for line in out.split('\n')]
     head = re.split(' {2,}', rows[0])
@@ -210,6 +211,8 @@ def strangers(it):
     it.checked('the type of others', line['resource'] == TYPE, line)
 
 
+TOO_MANY = ('kubectl-rbacaudit: the rules name more than 500,000 types, too many for a table: rules prints these rules, and with -n those that count in '
+            'one namespace\n')
 REFUSED = 'kubectl-rbacaudit: access has no format %s: -o takes table, wide or json\n'
 
 
@@ -231,10 +234,16 @@ def statuses(it):
     it.checked('a FILE', [line['resource'] for line in objects_in(it.run('access', 'u:eve', 'more.json', '--export', 'prod', '-o', 'json')[1].encode())] == ['pods/log'],
                it.run('access', 'u:eve', 'more.json', '--export', 'prod', '-o', 'json'))
     it.expect('a namespace that is not there', ['access', '--export', 'prod', CI_KEY, '-n', 'shpo'], 0, '', NO_SPACE % 'shpo')
+    it.run('export', 'spoilt')
+    it.write('{', 'spoilt', 'api-apps-v1.json')
+    it.expect('a bad API resource list, which no rule needs', ['access', '--export', 'spoilt', CI_KEY, '-n', 'shop'], 0, CI)
     os.remove(os.path.join(it.work, 'prod', 'namespaced.json'))
     missing = 'kubectl-rbacaudit: there is no namespaced.json in prod\n'
     it.expect('a part is missing', ['access', '--export', 'prod', 'u:dana@example.com'], 2, '', missing + REFUSAL)
     it.expect('a part is missing, --partial', ['access', '--export', 'prod', '--partial', 'u:dana@example.com'], 0, DANA, missing + CAUTION)
+    many = {'verbs': ['get'], 'apiGroups': ['g%d' % at for at in range(501)], 'resources': ['r%d' % at for at in range(1000)]}
+    it.write(json.dumps({'apiVersion': 'v1', 'kind': 'List', 'items': [role('many', many), bound('many', 'many', 'eve')]}), 'many.json')
+    it.expect('a rule of too many types', ['access', 'u:eve', 'many.json', '--export', 'prod', '--partial'], 2, '', missing + CAUTION + TOO_MANY)
     it.run('export', '-n', 'shop', 'part')
     it.expect('an export of one namespace', ['access', '--export', 'part', CI_KEY, '-n', 'shop'], 0, CI)
     it.expect('about another', ['access', '--export', 'part', CI_KEY, '-n', 'shop-staging'], 2, '',

@@ -6,6 +6,9 @@ import os
 from common import V1, V1BETA1
 from plugin_changes import a_list
 from plugin_room import KIM, RBAC, in_each_shell, served
+from plugin_show import bound, exported, rule
+from plugin_show import role as role_of
+from written import Parts, rows_in
 
 YAML = ('kubectl-rbacaudit: %s looks like YAML, and rbacaudit reads JSON: '
         'kubectl rbacaudit read %s makes JSON of it\n')
@@ -321,4 +324,28 @@ def long_universes(it):
               ''.join(no_field % name for name in names[:-1]) + no_field % ('y' * 500 + '..'))
 
 
-CHECKS = [texts, paths, principals, words, versions, lengths, grants, culprits, long_universes]
+TOO_MANY = """rbacaudit: P4 universe too large
+kubectl-rbacaudit: too many resources are named by rule 2 of Role shop/wide: 1,002,001
+kubectl-rbacaudit: a universe has at most 1,000,000 targets: resources times names, and URLs; a FILE that is a Universe document with "resources" or \
+"names" makes it smaller
+"""
+
+
+@in_each_shell
+def universes(it):
+    """A rule that names too many resources is told, and keeps nobody from a page of other resources."""
+    words = ['r%d' % at for at in range(1001)]
+    wide = {'verbs': ['get'], 'apiGroups': [*words, 'r1', '*', 'r*'], 'resources': [*words, 'r1', '*', '*/scale', '/x', '']}
+    exported(it, 'prod', role_of('wide', rule('get', 'pods'), wide, namespace='shop'), bound('b', 'wide', 'kim', namespace='shop', of='Role'))
+    for line in (['universe'], ['page'], ['report', '-o', 'html']):
+        it.expect('too many resources: %s' % line, [*line, '--export', 'prod'], 2, '', TOO_MANY)
+    it.write('{"apiVersion": "rbacaudit/v1", "kind": "Universe", "resources": [{"resource": "pods"}, {"group": "r7", "resource": "r8"}]}', 'own.json')
+    status, out, err = got = it.run('page', '--export', 'prod', 'own.json')
+    it.checked('a page of other resources', (status, err) == (0, '') and rows_in(Parts(out).data()['rows']) == [
+        'u:kim\tshop\tget\t%s\tRoleBinding/shop/b' % kind for kind in ('-\tpods\t-', 'r7\tr8\t-')], repr(got)[:2000])
+    it.write('{"apiVersion": "rbacaudit/v1", "kind": "Universe", "verbs": ["get"]}', 'verbs.json')
+    status, out, err = got = it.run('page', '--export', 'prod', 'verbs.json')
+    it.checked('not with a FILE that lists none', (status, out, err) == (2, '', TOO_MANY), got)
+
+
+CHECKS = [texts, paths, principals, words, versions, lengths, grants, culprits, long_universes, universes]

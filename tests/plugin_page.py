@@ -390,6 +390,20 @@ def plugin_reach(it):
         [who, '-', '0', '100000', '0', '0', '0', '100000', '1'] for who in answers if answers[who] == 3) and data['unasked'] == [], data['reach'])
 
 
+@in_each_shell
+def plugin_strange_reach(it):
+    """Names that no command line can have keep nobody from a page, which says that they weren't asked about."""
+    names = ['m' * 131_069, 'm' * 131_070, 'a\0b']
+    plain = served()
+    it.serve({'cluster': {**plain['cluster'], 'items': [*plain['cluster']['items'], role('taker', ('impersonate', '', ['users'], [])), binding(
+        'taker', 'ClusterRole', *(('User', name) for name in names))]}})
+    it.run('export', 'prod')
+    status, out, err = got = it.run('page', '--export', 'prod')
+    data = Parts(out).data()
+    it.checked('the longest name is asked about, and no other', (status, err, sorted(data['unasked'])) == (0, '', ['u:a\\x00b', 'u:' + names[1]])
+               and 'u:' + names[0] in [who for _, who, _, _ in data['paths']['answers']], repr(got)[:500])
+
+
 def plugin_parts():
     """Of an answer that isn't whole, the lines that lead to everything stay, and its numbers are told."""
     for name, lines, left, reach in (

@@ -29,11 +29,11 @@ FINDINGS = [line.split(' ') for line in (
     'L3 redundant-rule ClusterRole/deployer 4 1', 'L3 redundant-rule Role/payments/gateway 2 1')]
 STALE = ['ClusterRole/oncall-tools', 'ClusterRole/support-tools']
 GROUPS = ['g:auditors', 'g:oncall', 'g:payments-leads', 'g:platform', 'g:search-leads', 'g:support', 'g:team-checkout', 'g:team-payments', 'g:team-search']
-TITLES = ['What was read', 'Who takes over the whole cluster', 'Powers by person', 'Findings', 'Stale aggregates', "Groups whose members aren't known",
+TITLES = ['What was read', 'Who takes over the whole cluster', 'Powers of users and groups', 'Findings', 'Stale aggregates', "Groups whose members aren't known",
           'What this report misses']
 
 
-def powers_by_person(lines):
+def powers_of_each(lines):
     """Who has which powers where, from lines of powers: by who, and the whole cluster first."""
     found = {}
     for step, who, where, *_ in (line.split('\t') for line in lines):
@@ -86,8 +86,8 @@ def company_report(it):
     it.checked('who takes over the whole cluster', rows_in(parts[TITLES[1]]) == people and len(people) == 13, parts[TITLES[1]])
     it.checked('how many', said[0].startswith('5 users and groups have everything in the whole cluster (0 steps), and 8 take it over'), said)
     it.checked('its commands', commands == ["kubectl rbacaudit who-can --indirect --export prod -A '*' '*.*'", 'kubectl rbacaudit paths --export prod WHO'], commands)
-    wanted = [[who, where, ', '.join(steps)] for who, where, steps in powers_by_person(powers(found))]
-    it.checked('powers by person', rows_in(parts[TITLES[2]]) == wanted and len(wanted) > 13, parts[TITLES[2]])
+    wanted = [[who, where, ', '.join(steps)] for who, where, steps in powers_of_each(powers(found))]
+    it.checked('powers of users and groups', rows_in(parts[TITLES[2]]) == wanted and len(wanted) > 13, parts[TITLES[2]])
     it.checked('findings', rows_in(parts[TITLES[3]]) == [[LEVELS[row[0]], *row] for row in FINDINGS], parts[TITLES[3]])
     it.checked('stale aggregates', rows_in(parts[TITLES[4]]) == [[key] for key in STALE], parts[TITLES[4]])
     it.checked('groups', rows_in(parts[TITLES[5]]) == [[key] for key in GROUPS], parts[TITLES[5]])
@@ -124,7 +124,7 @@ def as_json(it):
         line.update({key: '' for key in keys if line[key] == '-'})
     it.checked('takeovers', report['takeovers'] == lines, (report['takeovers'], lines))
     it.checked('powers', report['powers'] == [{'who': who, 'where': None if where == '*' else where, 'powers': steps}
-                                              for who, where, steps in powers_by_person(powers(found))], report['powers'])
+                                              for who, where, steps in powers_of_each(powers(found))], report['powers'])
     it.checked('findings', [(it_['level'], it_['code'], it_['object']) for it_ in report['findings']] == [(LEVELS[row[0]], row[0], row[2]) for row in FINDINGS]
                and report['findings'][-1] == {'level': 'note', 'code': 'L3', 'name': 'redundant-rule', 'object': 'Role/payments/gateway', 'place': 2, 'detail': 1},
                report['findings'])
@@ -156,6 +156,9 @@ def fresh(it):
     status, out, err = got = it.run('report')
     parts = parts_in(out)
     it.checked('of a cluster', (status, err) == (0, '') and rows_in(parts[TITLES[0]])[:2] == [['context', 'far away'], ['server', 'https://10.0.0.1:6443']], got)
+    it.checked('what it reads, and what it doesn\'t', rows_in(parts[TITLES[0]])[-7:] == [
+        ['ClusterRole', '6'], ['ClusterRoleBinding', '2'], ['Role', '2'], ['RoleBinding', '3'], ['Namespace', 'not read'], ['ServiceAccount', '2'],
+        ['APIResourceList', 'not read']], parts[TITLES[0]])
     it.checked('its commands have no export', "kubectl rbacaudit who-can --indirect -A '*' '*.*'" in parts[TITLES[1]][2], parts)
     it.checked('dana alone', [row[:2] for row in rows_in(parts[TITLES[1]])] == [['0', 'u:dana@example.com']], parts)
     it.checked('nothing is stale', parts[TITLES[4]] == (['None.'], [], ['kubectl rbacaudit lint --only L6']), parts[TITLES[4]])
@@ -170,11 +173,13 @@ def fresh(it):
     it.checked('--partial', status == 0 and err.endswith(CAUTION) and '- A part of the export is missing: `%s`.' % (
         said % '').replace('`', '\\x60').replace('|', '\\x7c') in parts_in(out)[TITLES[6]][0], got)
     report = json.loads(it.run('report', '--export', 'prod', '--partial', '-ojson')[1])
-    it.checked('--partial, as JSON', 'A part of the export is missing: %s.' % (said % '') in report['misses'] and report['counts']['ServiceAccount'] == 0, report)
+    it.checked('--partial, as JSON', 'A part of the export is missing: %s.' % (said % '') in report['misses'] and report['counts']['ServiceAccount'] is None, report)
     it.run('export', '-n', 'shop', 'part')
     status, out, err = got = it.run('report', '--export', 'part')
     it.checked('one namespace', status == 0 and 'knows no other' in err and '- The export has the namespace `shop` alone.' in parts_in(out)[TITLES[6]][0]
                and ['only', 'shop'] in rows_in(parts_in(out)[TITLES[0]]), got)
+    it.checked('one namespace: how many objects', rows_in(parts_in(out)[TITLES[0]])[-7:] == [['ClusterRole', '6'], ['ClusterRoleBinding', '2'], [
+        'Role', '1'], ['RoleBinding', '2'], ['Namespace', '1'], ['ServiceAccount', '1'], ['APIResourceList', '4']], parts_in(out)[TITLES[0]])
     it.serve({'cluster': stale_with('get', 'use'), 'namespaced': of_kinds([])})
     report = json.loads(it.run('report', '-o', 'json')[1])
     it.checked('a stale aggregate', report['stale_aggregates'] == ['ClusterRole/a'], report)
@@ -205,6 +210,11 @@ def strangers(it):
     it.checked('each name is one span of code', len(spans) > 4 * len(ODD) and all(re.fullmatch('`[^`|]+`', span) for span in spans), spans)
     it.checked('and comes back', {name_in(row[0]) for row in rows} == {kind + name for kind in ('u:', 'g:') for name in ODD}, rows)
     it.checked('none hides', not re.search('[\u009b\u200b\u200e\u202e\u2066\u2028\u2800\ufeff\U000e0041]', out), out)
+    it.write('context: a\x1b[2Jb\x07\u202ec|`\nserver: d\x9b2K\x00\u0085e\n', 'prod', 'about.txt')
+    wanted = [['context', r'a?[2Jb?\xe2\x80\xaec\x7c\x60'], ['server', r'd\xc2\x9b2K?\xc2\x85e']]
+    for got in (it.run('report', '--export', 'prod'), on_terminal(it, 'report', '--export', 'prod')):
+        it.checked('nor what a terminal obeys in about.txt', got[0] == 0 and rows_in(parts_in(got[1])[TITLES[0]])[:2] == wanted
+                   and not re.search('[\x00-\x09\x0b-\x1f\x7f-\x9f]', got[1]), got[1][:500])
     it.checked('each line is a title, a row, an item, a command or a paragraph of ours', all(re.match(r'$|#|\||- |    kubectl|[A-Z0-9][^<>`|]*$|Ways', line)
                                                                                           for line in out.split('\n')), out)
 

@@ -23,7 +23,7 @@ import time
 
 from common import TOP, checked, skipped, tested
 from plugin_page import (plugin_files, plugin_names, plugin_notices, plugin_pages, plugin_parts, plugin_places, plugin_progress, plugin_reach,
-                         plugin_refusals, plugin_stale, plugin_types)
+                         plugin_refusals, plugin_stale, plugin_strange_reach, plugin_types)
 from shown import in_browser
 sys.path.append(os.path.join(TOP, 'plugin'))
 from rbacaudit_kubectl.page_rows import MOST_PARTS, MOST_TEXT, Rows  # noqa: E402
@@ -533,6 +533,9 @@ def helped():
           'output', 'plain', 'watched'])
     man = contents('man', 'rbacaudit-page.1')
     same('man: the options', re.findall(r'^\.TP\n.*\\-\\-(\w+)\\fR', man, re.M), [*options])
+    synopsis = man.partition('.SH SYNOPSIS\n')[2].partition('.SH ')[0]
+    same('man: the options of the synopsis', sorted(re.findall(r'\[\\fB\\-\\-(\w+)|^\.B \\-\\-(\w+)$', synopsis, re.M)),
+         sorted((name, '') if name != 'watched' else ('', name) for name in options if name != 'help'))
     checked('man: the default of --title', 'Default: Who can do what.' in man)
     same('man: the most parts, bytes of names, and lines of paths',
          [int(text.replace(',', '')) for text in re.findall(r'[Mm]ore than ([\d,]+) parts|have ([\d,]+) bytes|More than ([\d,]+) lines', man)
@@ -616,4 +619,4 @@ if __name__ == '__main__':
                     path_limit, watch_list, parts_limit, memory, limits, output, drawn,
                     terminals, helped, installed, plugin_pages, plugin_names, plugin_types, plugin_notices,
                     plugin_places,
-                    plugin_files, plugin_progress, plugin_reach, plugin_parts, plugin_refusals, plugin_stale, colours, in_browser))
+                    plugin_files, plugin_progress, plugin_reach, plugin_strange_reach, plugin_parts, plugin_refusals, plugin_stale, colours, in_browser))

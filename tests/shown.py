@@ -13,7 +13,7 @@ from opened import COUNTS, LABELS, Shown
 from shown_large import LARGE
 from shown_names import common_verbs, many_namespaces, names, notices, spreadsheet, strange_places, zoomed
 from shown_paths import PATHS
-from shown_scopes import joined, wide
+from shown_scopes import joined, odd_groups, part_of_a_name, wide
 from written import (CHANGES, FINDINGS, NAMED, NAMES, SMALL, file_of, made, named_strangers,
                      rows_of, same, steps, strangers)
 
@@ -539,7 +539,7 @@ def in_browser():
     try:
         with browser.browser() as it, tempfile.TemporaryDirectory() as room:
             it.ask('Browser.setDownloadBehavior', behavior='allow', downloadPath=room)
-            for part in (small_page, watched, by_name, watch_heads, stars, joined, notices, names,
+            for part in (small_page, watched, by_name, watch_heads, stars, joined, odd_groups, part_of_a_name, notices, names,
                          common_verbs, spreadsheet, strange_places, many_namespaces, zoomed, empty, widths,
                          hostile_page, cluster_page, themes, large, wide, *PATHS, *LARGE):
                 try:

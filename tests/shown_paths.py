@@ -199,8 +199,8 @@ def ranked(it, room):
 
 
 RANKED = ('By rbacaudit paths: whom and what each principal can take over, step by step. Whoever can take over the most is listed first: everything '
-          'in the whole cluster, everything in a namespace, service accounts. Whoever isn’t listed can take over nobody and nothing, but for what '
-          'the groups they are in can. ')
+          'in the whole cluster, everything in a namespace, service accounts. Whoever isn’t listed can take over nobody and nothing, except as '
+          'a member of a group that is. ')
 
 
 def shown_role(it, room):

@@ -121,6 +121,33 @@ u:ann dev list - secrets - RoleBinding/dev/ann
          ['ClusterRoleBinding/a ClusterRoleBinding/b ', 'RoleBinding/dev/ann '])
 
 
+def odd_groups(it, room):
+    """API groups with the names of what every object of JavaScript has: the page opens, and their types hold everywhere."""
+    groups = ['__proto__', 'constructor', 'toString']
+    page = Shown(it, room, 'groups', made(rows_of('\n'.join('u:ann - get %s pods - ClusterRoleBinding/b' % group for group in groups)))[1])
+    page.go('#what?ns=\\other')
+    same('odd groups: everywhere', page.texts('.grid thead th')[1:], ['pods.' + group for group in groups])
+    page.is_quiet()
+
+
+def part_of_a_name(it, room):
+    """A filter that is part of some namespaces' names isn't taken for another namespace, whose name is all of it but its first letter."""
+    rows = rows_of("""
+g:admins - get - pods - ClusterRoleBinding/admins
+g:admins - get - secrets - ClusterRoleBinding/admins
+g:admins - list - pods - ClusterRoleBinding/admins
+g:admins - list - secrets - ClusterRoleBinding/admins
+u:ann ashop-1 get - pods - RoleBinding/ashop-1/ann
+u:bob shop get - extras - RoleBinding/shop/bob
+""")
+    page = Shown(it, room, 'part', made(rows)[1])
+    page.go('#rows?namespace=ashop&watch=everything')
+    same('part of a name: who has everything there', page.saved(), rows[:4])
+    page.go('#rows?namespace==shop&watch=everything')
+    same('a whole name: in that namespace nobody has everything', page.saved(), [])
+    page.is_quiet()
+
+
 VERBS = ['get', 'list', 'watch', 'create', 'update', 'patch', 'delete', 'deletecollection', 'bind',
          'escalate', 'impersonate']
 

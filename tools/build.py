@@ -49,7 +49,7 @@ def main():
     begun = time.time()
     with Copy([NAME]) as copy:
         count = len(copy.crates)
-        print('%d crates are to be proved, and the program built. From nothing this takes 50 to 80 minutes of four busy\n'
+        print('%d crates are to be proved, and the program built. From nothing this takes 50 to 75 minutes of four busy\n'
               'cores; what was proved before on this machine and is unchanged is kept.' % count, flush=True)
         status, program = copy.ci(Progress(count).tell), copy.path(PROGRAM)
         if status or not os.path.isfile(program):

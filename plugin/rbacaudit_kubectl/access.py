@@ -8,20 +8,22 @@ from dataclasses import dataclass, field
 from .answer import Asking, ask_well, open_question
 from .documents import first_three
 from .escapes import bytes_of
-from .fields import in_field, in_key, place_of, powers_of, rows_of, text_of, words_of
-from .listed import list_types
+from .fields import POWER_GROUPS, POWER_RESOURCES, in_field, in_key, place_of, powers_of, rows_of, text_of, words_of
 from .options import choose_format
 from .processes import Session
 from .question import accept_words, check_cluster, read_question
 from .show import json_of, table_of
 from .table import Table, painted
-from .terminal import print_text
+from .terminal import Refused, print_text
 
 USUAL = ('get', 'list', 'watch', 'create', 'update', 'patch', 'delete', 'deletecollection')
 # What a cell says of a verb: for every object, only for those with the names of the last column, or not at all.
 ALL, SOME, NONE = 'yes', 'names', '-'
 EVERYWHERE = '*'
-SCOPED = 'cluster-scoped types, of which RoleBindings grant no more than use, bind of cluster roles, and the object of a namespace itself: %s'
+MOST_TYPES = 500_000
+TOO_MANY = 'the rules name more than 500,000 types, too many for a table: rules prints these rules, and with -n those that count in one namespace'
+SCOPED = ('RoleBindings name cluster-scoped types: %s; of such types, a RoleBinding grants only use, bind of cluster roles, and the object of its own '
+          'namespace')
 
 
 @dataclass
@@ -74,13 +76,25 @@ def accesses_of(rows: Iterable[Sequence[str]], asked_in: str) -> tuple[list[Acce
         for group, resource in ((group, resource) for group in groups for resource in resources):
             it = types.setdefault((where, group, resource), Access(where, group, resource))
             it.take(verbs, names)
-            it.has_power |= bool(powers_of('rules', [*row[:6], '[%s]' % group, '[%s]' % resource, *row[8:]]))
+            it.has_power |= has_power(row, group, resource)
         for path in paths if not place_of(row[0]) else ():
             urls.setdefault((path,), Access(EVERYWHERE, NONE, path)).take(verbs, ())
 
     def place(it: Access) -> tuple[object, ...]:
         return it.where != EVERYWHERE, *(bytes_of(text_of(part)) for part in (it.where, it.group, it.resource))
     return sorted(types.values(), key=place), sorted(urls.values(), key=place)
+
+
+def has_power(row: Sequence[str], group: str, resource: str) -> bool:
+    """Whether a line of rules gives a power by this group and resource. (a rule may have thousands of either, and few words can)"""
+    return (group in POWER_GROUPS and resource in POWER_RESOURCES
+            and bool(powers_of('rules', [*row[:6], '[%s]' % group, '[%s]' % resource, *row[8:]])))
+
+
+def check_size(rows: Iterable[Sequence[str]]) -> None:
+    """Refuses more types than a table may have: a small rule can name millions."""
+    if sum(len(words_of(row[6])) * len(words_of(row[7])) for row in rows) > MOST_TYPES:
+        raise Refused(TOO_MANY)
 
 
 # ---- how it is shown
@@ -158,6 +172,7 @@ def access_command(session: Session, words: list[str]) -> int:
     line = [*question.line, *files]
     done = ask_well(asking, line, files)
     rows = rows_of(done.out)
+    check_size(rows)
     for text in on_scope(asking, rows):
         session.report(text)
     print_text(''.join(texts_of(asking, *accesses_of(rows, question.asked_in))))
@@ -167,9 +182,12 @@ def access_command(session: Session, words: list[str]) -> int:
 
 
 def on_scope(asking: Asking, rows: Iterable[Sequence[str]]) -> Iterator[str]:
-    """Cluster-scoped types that rules of RoleBindings name, where the export tells which these are."""
+    """Cluster-scoped types that rules of RoleBindings name, where the export tells which these are. (lists that rbacaudit refuses tell nothing: the
+    answer needs none)"""
+    from .remarks import list_there
     named = {(group, resource) for row in rows if place_of(row[0]) for group in words_of(row[6]) for resource in words_of(row[7])}
-    files = asking.files('api') if named else []
-    known = {(in_field(it.group), in_field(it.name)) for it in list_types(asking, files) if not it.is_namespaced} if files else set()
+    listed = list_there(asking, 'api', 'resources') or () if named else ()
+    scopes = {(in_field(it['group']), in_field(it['resource'])): it['namespaced'] for it in listed}
+    known = {type_ for type_, is_namespaced in scopes.items() if not is_namespaced}
     if named & known:
         yield SCOPED % first_three('.'.join(filter(None, (text_of(name), text_of(group)))) for group, name in named & known)

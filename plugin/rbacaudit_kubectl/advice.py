@@ -5,9 +5,10 @@ from __future__ import annotations
 import json
 import os
 import re
+from collections.abc import Iterator
 
 from .answer import Asking
-from .documents import item_of, read_document, read_text, text_in, told
+from .documents import first_of, item_of, list_in, read_document, read_text, text_in, told
 from .manifests import BINDINGS, RBAC, ROLES
 from .processes import Session
 from .question import Question
@@ -21,6 +22,9 @@ VERSIONS = {'List': 'v1', 'Namespace': 'v1', 'ServiceAccount': 'v1', 'NamespaceL
 AT_MOST = 'a file may have at most 67,108,864 bytes (64 MiB): '
 APART = '%s and ask rbacaudit about all %s, without this plugin'
 GRANTS = 'rbacaudit takes at most 1,000,000 grants%s: pairs of a binding and a rule of its role%s'
+MOST_TARGETS = 1_000_000
+TARGETS = ('a universe has at most 1,000,000 targets: resources times names, and URLs; a FILE that is a Universe document with "resources" or "names" '
+           'makes it smaller')
 WHO = 'WHO is u:NAME for a user, or g:NAME for a group: '
 
 
@@ -114,6 +118,26 @@ def advise_on_grants(asking: Asking) -> None:
         smaller = '; for this question, export the namespace {0} alone: kubectl rbacaudit export -n {0} DIR'.format(question.asked_in)
     each = ' on each side' if question.command == 'diff' else ''
     asking.session.report(GRANTS % (each, smaller))
+
+
+def advise_on_universe(asking: Asking, files: list[str]) -> None:
+    """Says which rules alone name too many resources for a universe, if there are such, and how it is made smaller."""
+    found = [text for path in files for text in wide_rules(path)]
+    if found:
+        asking.session.report('too many resources are named by %s' % first_of(found))
+    asking.session.report(TARGETS)
+
+
+def wide_rules(path: str) -> Iterator[str]:
+    """The rules of a file that name more resources than a universe may have targets."""
+    document = read_document(path)
+    for item in range(1, len(list_in(document, 'items')) + 1):
+        found, kind = item_of(document, item)
+        for place, rule in enumerate(list_in(found, 'rules') if kind in ROLES else (), 1):
+            groups, words = ({text for text in list_in(rule, name) if isinstance(text, str) and '*' not in text} for name in ('apiGroups', 'resources'))
+            count = len(groups) * len({text for text in words if text and not text.startswith('/')})
+            if count > MOST_TARGETS:
+                yield 'rule %d of %s: %s' % (place, find_culprit(path, item) or kind, format(count, ','))
 
 
 # ---- words that are refused

@@ -68,6 +68,9 @@ def report_fault(asking: Asking, said: str, files: list[str]) -> None:
     if re.search('^rbacaudit: M11 ', said, re.M):
         from .advice import advise_on_grants
         advise_on_grants(asking)
+    if re.search('^rbacaudit: P4 ', said, re.M):
+        from .advice import advise_on_universe
+        advise_on_universe(asking, files)
 
 
 def name_file(asking: Asking, path: str, found: re.Match[str]) -> None:

@@ -79,6 +79,10 @@ STEPS = (
     ('volumes', 'create', 'persistentvolumes', CLUSTER),
     ('namespaces', 'update patch', 'namespaces', ''))
 STEP_NAMES = tuple(dict.fromkeys(name for name, *_ in STEPS))
+_TYPES = {type_ for _, _, types, _ in STEPS for type_ in types.split()}
+# The words of a rule by which it may have one of these types.
+POWER_GROUPS = {'*', *(type_.partition('.')[2] or '-' for type_ in _TYPES)}
+POWER_RESOURCES = {'*', *(type_.partition('.')[0] for type_ in _TYPES), *('*/' + type_.partition('.')[0].partition('/')[2] for type_ in _TYPES if '/' in type_)}
 
 
 def has_name(verb: str, type_: str) -> bool:

@@ -74,7 +74,16 @@ def make_universe(asking: Asking) -> tuple[str, list[Type]]:
     types = list_types(asking, files) if files else []
     known = {(it.group, it.name): it.is_namespaced for it in types}
     types += [Type(it.group, it.name, known.get((it.group, it.name.partition('/')[0]), True))
-              for it in list_types(asking, asking.files('cluster.json', 'namespaced.json')) if (it.group, it.name) not in known]
+              for it in types_of_rules(asking) if (it.group, it.name) not in known]
     entries = ','.join('\n    ' + json.dumps({'group': it.group, 'resource': it.name, 'namespaced': it.is_namespaced or (
         it.group, it.name) == (RBAC, 'clusterroles')}, ensure_ascii=False) for it in types)
     return '{\n  "apiVersion": "rbacaudit/v1",\n  "kind": "Universe",\n  "resources": [%s\n  ],\n  "names": [""]\n}\n' % entries, types
+
+
+def types_of_rules(asking: Asking) -> list[Type]:
+    """The types that rules name. Where these are too many, those of a Universe document among the FILEs, whose list replaces this one anyway:
+    otherwise whoever can write a role could keep everybody from a page."""
+    files = asking.files('cluster.json', 'namespaced.json')
+    if asking.question.files and asking.session.capture(['rbacaudit', 'universe', *files]).status:
+        files = [*asking.question.files, *files]
+    return list_types(asking, files)

@@ -58,7 +58,7 @@ OPTIONS = (
     ('lint', 'FILE', 'findings to show with the rows: lines of rbacaudit lint'),
     ('diff', 'FILE', 'changes to show with the rows: lines of rbacaudit diff'),
     ('paths', 'FILE', 'paths to show with the rows: lines of rbacaudit paths or who-can --indirect'),
-    ('reach', 'FILE', 'how far principals reach whose paths the page has in part (see the man page)'),
+    ('reach', 'FILE', 'how far principals reach whose paths are here only in part (see man)'),
     ('unasked', 'FILE', 'principals whose paths the page lacks: u:NAME or g:NAME'),
     ('named', 'FILE', 'holders limited to object names: verb, API group, resource, who, binding'),
     ('namespaced', 'FILE', 'types that have namespaces: API group and resource'),
@@ -75,7 +75,7 @@ def read_options(words: Sequence[str]) -> argparse.Namespace:
     for name, value, text in OPTIONS:
         parser.add_argument('--' + name, metavar=value, help=text, action='append' if name == 'paths' else 'store',
                             default={'title': 'Who can do what', 'paths': []}.get(name))
-    parser.add_argument('--plain', action='store_true', help='pack nothing, for browsers before 2023')
+    parser.add_argument('--plain', action='store_true', help='pack nothing, for Firefox before version 113')
     parser.add_argument('--watched', action='store_true', help='print the watch list: step, verb, API group and resource')
     return parser.parse_args(words)
 

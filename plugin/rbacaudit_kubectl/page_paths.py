@@ -9,7 +9,7 @@ from collections import deque
 from collections.abc import Iterator, Sequence
 
 from .answer import Asking, ask_well
-from .escapes import text_of
+from .escapes import bytes_of, text_of
 from .fields import rows_of
 from .fields import text_of as text_of_field
 from .processes import Child
@@ -20,6 +20,7 @@ MOST_WHOLE = 150_000    # the lines of answers that the page has whole
 MOST_LINES = 200_000    # of all answers: with more a page opens slowly
 MOST_PLACES = 3         # to how many places of everything the paths stay, of an answer that isn't whole
 AT_ONCE = 4             # how many questions are asked at the same time
+LONGEST_WORD = 131_071  # bytes
 EVERYTHING = re.compile(r'^([0-9]+)\t(\*\t[^\t]+)', re.M)
 # How a line begins that leads to a user, a group, a service account, and a role.
 ACCOUNT = re.compile(r'^[0-9]+\tu:system:serviceaccount:[^:\t]+:[^:\t]+\t', re.M)
@@ -62,7 +63,9 @@ class Paths:
 
     def ask(self) -> None:
         """Asks about whoever has the most powers first."""
-        keys = by_powers(rows_of(ask_well(self.asking, ['powers', '--', *self.files], self.files).out))
+        found = by_powers(rows_of(ask_well(self.asking, ['powers', '--', *self.files], self.files).out))
+        keys = [key for key in found if is_word(key)]
+        self.unasked += (key for key in found if not is_word(key))
         waiting, running, ends = deque(keys), deque[tuple[str, str, Child]](), time.monotonic() + self.seconds
         while waiting or running:
             while waiting and len(running) < min(AT_ONCE, os.cpu_count() or 1) and time.monotonic() < ends:
@@ -97,6 +100,12 @@ class Paths:
         else:
             self.lines += text.count('\n')
             self.answers.append(text)
+
+
+def is_word(key: str) -> bool:
+    """Whether a command can be asked about a key: Linux gives a program no word that is longer, and none with a zero byte."""
+    text = bytes_of(text_of_field(key))
+    return len(text) <= LONGEST_WORD and b'\0' not in text
 
 
 def by_powers(rows: Sequence[Sequence[str]]) -> list[str]:

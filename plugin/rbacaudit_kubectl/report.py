@@ -13,7 +13,7 @@ from typing import Any
 from . import page
 from .answer import Asking, ask_well
 from .documents import item_of, list_in, read_document
-from .escapes import bytes_of, escaped, on_one_line
+from .escapes import bytes_of, on_one_line
 from .export import open_export, write_about
 from .fields import rows_of, text_of
 from .options import choose_format, read_options
@@ -26,7 +26,9 @@ from .show import Reader, json_of, objects_of
 from .table import BLANK
 from .terminal import Refused, print_text
 
-KINDS = ('ClusterRole', 'ClusterRoleBinding', 'Role', 'RoleBinding', 'Namespace', 'ServiceAccount')
+# The kinds of an export, with the file of each.
+KINDS = {'ClusterRole': 'cluster.json', 'ClusterRoleBinding': 'cluster.json', 'Role': 'namespaced.json', 'RoleBinding': 'namespaced.json',
+         'Namespace': 'namespaces.json', 'ServiceAccount': 'accounts.json'}
 LEVELS = ('error', 'warning', 'note')
 # Whoever may do this has everything in the whole cluster.
 EVERYTHING = ['who-can', '--indirect', '-A', '--', '*', '*.*']
@@ -39,7 +41,7 @@ MISSES = [(text, '') for text in (
 GAP, ALONE = 'A part of the export is missing: %s.', 'The export has the namespace %s alone.'
 OF_SYSTEM = "Findings about Kubernetes' own objects are left out: %s."
 TAKEOVERS = ('%d users and groups have everything in the whole cluster (0 steps), and %d take it over step by step. Each line has the first step of '
-             'a shortest path: whom or what WHO takes over, and by which binding.')
+             'a shortest path: whom or what WHO takes over, and by which binding. A star as TO is everything.')
 STALE = 'Aggregated roles are stale: the cluster grants what is written in them, and this report has what they gather.'
 
 
@@ -47,7 +49,7 @@ STALE = 'Aggregated roles are stale: the cluster grants what is written in them,
 class Report:
     """What a report has. All texts of rows are fields."""
     about: dict[str, str]
-    counts: dict[str, int]
+    counts: dict[str, int | None]           # of objects of each kind: nothing if the export has no file of them
     takeovers: list[list[str]]              # lines of who-can --indirect
     powers: dict[tuple[str, str], list[str]]    # by who and where
     findings: list[list[str]]
@@ -90,13 +92,15 @@ def level_of(finding: Sequence[str]) -> str:
     return next(rule.level for rule in LINT if rule.id == finding[0])
 
 
-def counts_of(asking: Asking) -> dict[str, int]:
-    """How many objects the export has of each kind, and how many API resource lists."""
+def counts_of(asking: Asking) -> dict[str, int | None]:
+    """How many objects the export has of each kind, and how many API resource lists: nothing where none were read."""
     kinds: Counter[str] = Counter()
-    for path in asking.files('cluster.json', 'namespaced.json', 'namespaces.json', 'accounts.json'):
+    for path in asking.files(*dict.fromkeys(KINDS.values())):
         document = read_document(path)
-        kinds.update(item_of(document, place)[1] for place in range(1, len(list_in(document, 'items')) + 1))
-    return {**{kind: kinds[kind] for kind in KINDS}, 'APIResourceList': len(asking.files('api'))}
+        # (the namespace of an export of one is no list)
+        kinds.update(item_of(document, place)[1] for place in range(1, len(list_in(document, 'items')) + 1) or [0])
+    counts = {kind: kinds[kind] if kinds[kind] or asking.files(name) else None for kind, name in KINDS.items()}
+    return {**counts, 'APIResourceList': len(asking.files('api')) or None}
 
 
 # ---- as JSON
@@ -122,8 +126,9 @@ def json_report(report: Report) -> str:
 # ---- as Markdown
 
 def code(text: str) -> str:
-    """A name as Markdown shows it as it is: in a span of code, with neither what ends that nor what ends a cell."""
-    return '`%s`' % BLANK.sub(r'\\x20', escaped(text)).replace('`', '\\x60').replace('|', '\\x7c') if text != '-' else ''
+    """A name as Markdown shows it as it is: in a span of code, with neither what ends that nor what ends a cell. (about.txt and incomplete.txt of
+    somebody else's export may have characters that a terminal obeys)"""
+    return '`%s`' % BLANK.sub(r'\\x20', on_one_line(text)).replace('`', '\\x60').replace('|', '\\x7c') if text != '-' else ''
 
 
 def table(heads: str, rows: Sequence[Sequence[str]]) -> Iterator[str]:
@@ -145,13 +150,13 @@ def markdown(report: Report, folder: str) -> Iterator[str]:
 
     yield '# Access report'
     yield from part('What was read', '', 'WHAT VALUE', [[name, code(text)] for name, text in report.about.items()] +
-                    [[kind, str(count)] for kind, count in report.counts.items()], 'universe%s')
+                    [[kind, 'not read' if count is None else str(count)] for kind, count in report.counts.items()], 'universe%s')
     people = [row for row in report.takeovers if row[1].startswith(('u:', 'g:'))]
     has = len([row for row in people if row[0] == '0'])
     yield from part('Who takes over the whole cluster', TAKEOVERS % (has, len(people) - has), 'STEPS WHO TO WHERE STEP BINDING',
                     [[row[0], code(row[1]), *map(code, row[3:7])] for row in people],
                     "who-can --indirect%s -A '*' '*.*'", 'paths%s WHO')
-    yield from part('Powers by person', 'Ways to take over somebody else or to gain permissions. `*` is the whole cluster.', 'WHO WHERE POWERS',
+    yield from part('Powers of users and groups', 'Ways to take over somebody else or to gain permissions. `*` is the whole cluster.', 'WHO WHERE POWERS',
                     [[code(who), code(where), ', '.join(steps)] for (who, where), steps in report.powers.items()], 'powers%s', 'access%s WHO')
     yield from part('Findings', '', 'LEVEL CODE NAME OBJECT PLACE DETAIL',
                     [[level_of(row), *row[:2], *map(code, row[2:])] for row in report.findings], 'lint%s')

@@ -2,7 +2,8 @@
 
 import unittest
 
-from rbacaudit_kubectl import access, dot, report
+from rbacaudit_kubectl import access, dot, fields, report
+from rbacaudit_kubectl.terminal import Refused
 
 
 def lines(*rows):
@@ -37,13 +38,32 @@ class Accesses(unittest.TestCase):
             self.assertEqual([it.has_power for it in access.accesses_of(lines((binding, lists)), '')[0]], wanted)
 
 
+    def test_all_powers(self):
+        groups, resources = ({text.partition('.')[at] or '-' for _, _, types, _ in fields.STEPS for text in types.split()} for at in (2, 0))
+        words = [*resources, *('*/' + word.partition('/')[2] for word in resources if '/' in word), '*', '*/x', 'x', 'x/exec', 'pods/x', '-']
+        for binding in ('ClusterRoleBinding/b', 'RoleBinding/kube-system/b', 'RoleBinding/a/b'):
+            row, *_ = lines((binding, '[*] [] [] [] []'))
+            found = [access.has_power(row, group, word) for group in (*groups, '*', 'x') for word in words]
+            self.assertEqual(found, [bool(fields.powers_of('rules', [*row[:6], '[%s]' % group, '[%s]' % word, *row[8:]]))
+                                     for group in (*groups, '*', 'x') for word in words])
+            self.assertTrue(any(found) and not all(found))
+
+    def test_size(self):
+        many = '[%s]' % ','.join('x%d' % at for at in range(500)), '[%s]' % ','.join('x%d' % at for at in range(1000))
+        rows = lines(('ClusterRoleBinding/b', '[get] %s %s [] []' % many))
+        access.check_size(rows)
+        with self.assertRaises(Refused):
+            access.check_size([*rows, *lines(('ClusterRoleBinding/b', '[get] [-] [x] [] []'))])
+
+
 class Quoting(unittest.TestCase):
     def test_graphs(self):
         for text, wanted in (('a\\x09"b', '"a\\\\x09\\"b"'), ('&lt;', '"&amp;lt;"'), ('\u202e', '"\\\\xe2\\\\x80\\\\xae"'), ('é', '"é"')):
             self.assertEqual(dot.quoted(text), wanted)
 
     def test_markdown(self):
-        for text, wanted in (('a|`b', '`a\\x7c\\x60b`'), (' a  b ', '`\\x20a \\x20b\\x20`'), ('-', ''), ('\\x2d', '`\\x2d`'), ('\u202ea', '`\\xe2\\x80\\xaea`')):
+        for text, wanted in (('a|`b', '`a\\x7c\\x60b`'), (' a  b ', '`\\x20a \\x20b\\x20`'), ('-', ''), ('\\x2d', '`\\x2d`'), ('\u202ea', '`\\xe2\\x80\\xaea`'),
+                             ('a\x1b[2J\rb\x7f\n', '`a?[2J?b?\\n`')):
             self.assertEqual(report.code(text), wanted)
 
 
