@@ -34,7 +34,7 @@ from logged import Fault, who_of
 from meaning import (account, allows, binding_text, field, groups_of, is_live, is_named, key_of, name_of, objects,
                      ordered_bindings, role_of, rule_allows, sources_of)
 from matrix_pages import GROUPS, NAMES, RESOURCES, TEAMS, URLS, USERS, bindings, roles, some
-from paths import items_of
+from paths import whole
 from rules import odd
 
 LINES = ('binding', 'subject', 'rule', 'permission')
@@ -528,6 +528,16 @@ def reference(words):
     sys.stdout.write(out)
     sys.stderr.write(err)
     return status
+
+
+def items_of(text):
+    """The roles and bindings of a document, with the fields that tests/meaning.py wants to be there."""
+    document = json.loads(text)
+    kind = document.get('kind', '').removesuffix('List')
+    for item in document['items'] if 'items' in document else [document]:
+        item = {'kind': kind, **item}
+        if item['kind'] in ('Role', 'ClusterRole', 'RoleBinding', 'ClusterRoleBinding'):
+            yield whole(item)
 
 
 def contents(path):
