@@ -89,11 +89,9 @@ def long(room):
 
 
 def faults(room):
-    """Logs that are refused: a line of the second one, one that isn't there, and command lines that name standard input twice."""
+    """Logs that are refused: a line of the second one, half of an event, and one that isn't there."""
     good, bad = put(room, 'good', *EVENTS), put(room, 'bad', *EVENTS, {**event('alice', 'get'), 'user': {'groups': []}})
     missing = os.path.join(room, 'missing.log')
     yield 'G6', ['unused', '--log', good, '--log', bad], EXPORT, 2, '', 'log 2: line 6: G6 bad user'
     yield 'G1', ['unused', '--log', put(room, 'half', json.dumps(EVENTS[1])[:-1])], EXPORT, 2, '', 'log 1: line 1: G1 not JSON'
     yield 'I1 of a log', ['unused', '--log', good, '--log', missing], EXPORT, 2, '', 'log 2: I1 read fault'
-    yield ('U11', ['unused', '--log', '-'], EXPORT, 2, '',
-           'U11 --log - may be given once, and needs a FILE: standard input can be read only once')

@@ -9,7 +9,7 @@ one after the other. Some logs have a line that is refused.
 Then the law is looked for in the program's answers alone. All that its lines name is taken out of the export: bindings, subjects,
 rules and permissions. Of the requests of the log, those that `can-i` allowed before are still allowed. Nothing is unused then.
 
-First of all come the worked rows of rows_unused.json, for the program and for the reading above.
+First of all come the worked rows of rows_unused.json, and what only a process shows (log_streams.py).
 
 `unused.py SEED COUNT` tries other exports. `unused.py --reference [--skip-system] --log LOG.. [FILE]..` prints the lines of
 the reading. `unused.py --rows` compares the reading alone with the worked rows; `unused.py --itself SEED COUNT` lets it answer in
@@ -29,7 +29,8 @@ import sys
 import tempfile
 
 import logged
-from common import PROGRAM, TOP, V1, export
+from common import PROGRAM, TOP, V1, export, results
+from log_streams import log_streams
 from logged import Fault, who_of
 from meaning import (account, allows, binding_text, field, groups_of, is_live, is_named, key_of, name_of, objects,
                      ordered_bindings, role_of, rule_allows, sources_of)
@@ -549,6 +550,8 @@ def contents(path):
 
 def main(seed='1', number='300', ask=told):
     counts, (passed, failed) = collections.Counter(), rows(ask)
+    if ask is told:
+        log_streams()
     with tempfile.TemporaryDirectory() as room:
         for at in range(int(number)):
             wrong = tried(seed, at, room, counts, ask)
@@ -560,6 +563,7 @@ def main(seed='1', number='300', ask=told):
     if few:
         print('FAIL too few: %s' % ', '.join(few))
         failed += 1
+    passed, failed = passed + results.count(True), failed + results.count(False)
     print('%d passed, %d failed' % (passed, failed))
     return 1 if failed else 0
 
