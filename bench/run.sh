@@ -135,6 +135,23 @@ measure_wide() {
     rm "$file".*
 }
 
+# One line for an audit log: its size, how many lines say what is unused, the time and memory of `unused`, and of `can-i` and of JSON
+# alone over the same events in lists, with the ratios to both. The lists follow the log.
+measure_log() {
+    local name=$1 file=$2 log=$3 lines unused answer json=0 list
+    shift 3
+    lines=$("$audit" unused --log "$log" "$file" | wc -l)
+    unused=$(python3 least.py 3 "$audit" unused --log "$log" "$file")
+    answer=$(python3 least.py 3 "$audit" can-i --as nobody@example.com -A get pods "$file" "$@")
+    for list in "$@"; do
+        json=$((json + $(python3 least.py 3 "$alone" "$list")))
+    done
+    printf '%-44s %9d bytes %7d lines  unused %6d ms %4d MB  can-i %6d ms %4d MB  JSON alone %6d ms  ratios %s\n' "$name" \
+        "$(stat -c %s "$log")" "$lines" "$unused" "$(($(python3 least.py --memory "$audit" unused --log "$log" "$file") / 1024))" "$answer" \
+        "$(($(python3 least.py --memory "$audit" can-i --as nobody@example.com -A get pods "$file" "$@") / 1024))" "$json" \
+        "$(python3 -c "print('%.2f %.2f' % ($unused / max(1, $answer), $unused / max(1, $json)))")"
+}
+
 # One line for lint on a role of many rules, and for its aggregated roles alone, beside can-i.
 measure_lint() {
     local name=$1 file=$2
@@ -199,6 +216,12 @@ measure_pages "pages, 1000 roles, 4000 bindings" "$room/export.json"
 for size in "4 20 60" "40 20 60" "4 200 60" "4 20 600"; do
     python3 generate_idle.py $size "$room/idle.json"
     printf '%-44s matrix %5d ms\n' "verbs, namespaces, resources $size" "$(least "$audit" matrix "$room/idle.json")"
+done
+python3 generate_export.py 1000 4000 100 1 "$room/export.json" > /dev/null
+for distinct in 1000 20000 100000; do
+    python3 generate_log.py "$room/export.json" 200 "$distinct" 1 "$room/audit.log" "$room/events" > /dev/null
+    measure_log "a log of 200 MB, $distinct requests" "$room/export.json" "$room/audit.log" "$room"/events-*.json
+    rm "$room/audit.log" "$room"/events-*.json
 done
 for kind in different equal subresources urls prefixes; do
     python3 generate_rules.py "$kind" 20000 "$room/rules.json"

@@ -31,6 +31,9 @@ function __rbacaudit_options
         case diff
             echo '^(--(before|after|without|with))$'
             string split ' ' 'before= after= without= with= h/help'
+        case unused
+            echo '^(--(log))$'
+            string split ' ' 'log= skip-system h/help'
         case '*'
             echo '(?!)'
             string split ' ' 'h/help V/version'
@@ -85,7 +88,8 @@ complete -c rbacaudit -n '__rbacaudit_words -eq 0 ""' -a lint -d 'List what look
 complete -c rbacaudit -n '__rbacaudit_words -eq 0 ""' -a powers -d 'List who can act as others or gain permissions'
 complete -c rbacaudit -n '__rbacaudit_words -eq 0 ""' -a paths -d 'List whom and what WHO can take over, step by step'
 complete -c rbacaudit -n '__rbacaudit_words -eq 0 ""' -a diff -d 'List the permissions that a change gives or takes away'
-complete -c rbacaudit -n '__rbacaudit_lacks help "" can-i who-can rules matrix universe lint powers paths diff' -s h -l help -d 'Print help'
+complete -c rbacaudit -n '__rbacaudit_words -eq 0 ""' -a unused -d 'List bindings, subjects'
+complete -c rbacaudit -n '__rbacaudit_lacks help "" can-i who-can rules matrix universe lint powers paths diff unused' -s h -l help -d 'Print help'
 complete -c rbacaudit -n '__rbacaudit_lacks version ""' -s V -l version -d 'Print version'
 complete -c rbacaudit -n '__rbacaudit_lacks as can-i' -l as -x -d 'User to check'
 complete -c rbacaudit -n '__rbacaudit_lacks groups can-i rules paths' -l groups -x \
@@ -129,11 +133,13 @@ complete -c rbacaudit -n '__rbacaudit_lacks without diff' -l without -x -k -a '(
     -d 'JSON of objects that the change deletes from those of --before'
 complete -c rbacaudit -n '__rbacaudit_lacks with diff' -l with -x -k -a '(__fish_complete_suffix .json)' \
     -d 'JSON of objects that the change adds or replaces'
+complete -c rbacaudit -n '__rbacaudit_words -ge 0 unused' -l log -r -F -d 'Audit log of the API server, JSON lines'
+complete -c rbacaudit -n '__rbacaudit_lacks skip-system unused' -l skip-system -d 'Leave out bindings whose names begin with system:'
 complete -c rbacaudit -n '__rbacaudit_words -eq 0 can-i who-can' -k -d 'Verb to check' \
     -a 'get list watch create update patch delete deletecollection use bind escalate impersonate'
 complete -c rbacaudit -n '__rbacaudit_words -ge 2 can-i who-can' -k -a '(__fish_complete_suffix .json)'
 complete -c rbacaudit -n '__rbacaudit_words -ge 1 rules paths' -k -a '(__fish_complete_suffix .json)'
-complete -c rbacaudit -n '__rbacaudit_words -ge 0 matrix universe lint powers' -k -a '(__fish_complete_suffix .json)'
+complete -c rbacaudit -n '__rbacaudit_words -ge 0 matrix universe lint powers unused' -k -a '(__fish_complete_suffix .json)'
 complete -c rbacaudit -n '__rbacaudit_has before diff' -k -a '(__fish_complete_suffix .json)'
 complete -c rbacaudit -n '__rbacaudit_has after diff' -k -a '(__fish_complete_suffix .json)'
 complete -c rbacaudit -n '__rbacaudit_has without diff' -k -a '(__fish_complete_suffix .json)'

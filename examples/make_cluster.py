@@ -3,7 +3,7 @@
     python3 make_cluster.py [FOLDER]
 
 writes its files into FOLDER, which is examples/cluster if none is given. FOLDER/before/ has the roles and bindings of an
-earlier export, and FOLDER/change/ those of a change that waits for review. Everything stands in the tables below, and a rule is
+earlier export, FOLDER/change/ those of a change that waits for review, and FOLDER/audit.log a server's audit log. Everything stands in the tables below, and a rule is
 a line of verbs, groups, resources and names, or of verbs and URLs; `-` is the core group. The default roles follow Kubernetes'
 own, without those that nobody uses here and without the group `extensions`. A server sends an API resource list as one line;
 here each resource has its own.
@@ -264,6 +264,63 @@ indexer-nodes view a::indexer
 CHANGED_ROLES = {'search indexer': ['get list | - | configmaps']}
 CHANGED_BINDINGS = 'search indexer Role/indexer a:search:indexer\n'
 
+# ---- the audit log: who asked, with whose groups, the verb, the namespace, and a type with its object, or a URL. A type has its
+# group after a dot. Whoever acted as somebody else has them after `as`; what the server forbade ends with `forbidden`.
+
+AUDITED = '''
+a:kube-system:coredns list - endpointslices.discovery.k8s.io
+a:flux-system:source-controller list - gitrepositories.source.toolkit.fluxcd.io
+a:flux-system:source-controller patch flux-system gitrepositories/status.source.toolkit.fluxcd.io apps
+a:flux-system:kustomize-controller list - kustomizations.kustomize.toolkit.fluxcd.io
+a:flux-system:kustomize-controller patch checkout deployments.apps web
+a:flux-system:kustomize-controller create flux-system events kustomization-apps
+a:cert-manager:cert-manager update kube-system leases.coordination.k8s.io cert-manager-controller
+a:cert-manager:cert-manager list - certificates.cert-manager.io
+a:cert-manager:cert-manager update payments secrets gateway-tls
+a:monitoring:prometheus-k8s get - nodes/metrics node-1
+a:monitoring:prometheus-k8s list - pods
+a:monitoring:prometheus-k8s list - endpointslices.discovery.k8s.io
+a:monitoring:prometheus-k8s get - /metrics
+a:monitoring:prometheus-operator list - prometheuses.monitoring.coreos.com
+a:monitoring:prometheus-operator update monitoring statefulsets.apps prometheus-k8s
+a:monitoring:prometheus-operator get monitoring secrets prometheus-k8s
+a:kube-system:backup list - persistentvolumeclaims
+a:kube-system:backup get payments configmaps settings
+a:ci:deploy-checkout get checkout deployments.apps web
+a:ci:deploy-checkout patch checkout deployments.apps web
+a:ci:deploy-checkout create checkout configmaps web-4
+a:ci:deploy-payments get payments-staging deployments.apps gateway
+a:ci:deploy-payments patch payments-staging deployments.apps gateway
+a:ci:deploy-payments get payments deployments.apps gateway
+a:ci:deploy-payments patch payments deployments.apps gateway
+a:ci:deploy-search get search statefulsets.apps indexer
+a:ci:deploy-search update search statefulsets.apps indexer
+a:ci:deploy-search get search secrets indexer forbidden
+a:payments:gateway get payments secrets gateway-tls
+a:payments:gateway get payments configmaps settings
+u:system:anonymous,system:unauthenticated get kube-public configmaps cluster-info
+u:system:anonymous,system:unauthenticated get - /healthz
+u:robin@example.com,platform list - nodes
+u:robin@example.com,platform get - namespaces
+u:robin@example.com,platform patch flux-system deployments.apps source-controller
+u:mia@example.com,auditors list - clusterrolebindings.rbac.authorization.k8s.io
+u:mia@example.com,auditors list - rolebindings.rbac.authorization.k8s.io
+u:kim@example.com,team-payments list payments pods
+u:kim@example.com,team-payments get payments pods/log gateway-0
+u:kim@example.com,team-payments get payments secrets gateway-tls forbidden
+u:kim@example.com,team-payments create payments-staging pods/exec gateway-0
+u:kim@example.com,team-payments delete payments-staging pods gateway-0
+u:kim@example.com,team-payments get ci pods/log runner-7
+u:ines@example.com,team-search,search-leads list search pods
+u:ines@example.com,team-search,search-leads patch search deployments.apps web
+u:noah@example.com,team-checkout get checkout deployments.apps web
+u:lee@example.com,oncall list search pods
+u:lee@example.com,oncall create search pods/exec indexer-0
+u:sam@example.com,support list checkout pods
+u:sam@example.com,support get checkout pods/log web-1
+u:sam@example.com,support list payments-staging pods as kim@example.com,team-payments
+'''
+
 # ---- API resources: a scope, a name, a kind, its short names, and its subresources
 
 API = {
@@ -457,6 +514,56 @@ def api_resources(line):
         yield {**entry, 'name': name + '/' + subresource, 'singularName': '', 'verbs': verbs.split()}
 
 
+# ---- the audit log
+
+def audited_user(text):
+    """A user as the server logs it: an account's groups, and for everybody who signs in one more."""
+    name, *groups = text.split(',')
+    if name.startswith('a:'):
+        _, namespace, account = name.split(':')
+        return {'username': 'system:serviceaccount:%s:%s' % (namespace, account),
+                'groups': ['system:serviceaccounts', 'system:serviceaccounts:' + namespace, 'system:authenticated']}
+    signed_in = [] if 'system:unauthenticated' in groups else ['system:authenticated']
+    return {'username': name.removeprefix('u:'), 'groups': groups + signed_in}
+
+
+def reference(namespace, type_word, name):
+    """The object of a request, and the path that asked for it."""
+    resource, _, group = type_word.partition('.')
+    resource, _, subresource = resource.partition('/')
+    parts = {'resource': resource, 'namespace': namespace, 'name': name, 'apiGroup': group, 'apiVersion': 'v1', 'subresource': subresource}
+    path = ['/apis/%s/v1' % group if group else '/api/v1', *(['namespaces', namespace] if namespace else []), resource, name, subresource]
+    return {part: word for part, word in parts.items() if word}, '/'.join(word for word in path if word)
+
+
+def event(number, line):
+    """An event as a server writes it, of a line of the table. A create has its object's name in the event and not in the path."""
+    words, _, other = line.partition(' as ')
+    user, verb, namespace, type_word, *more = words.split()
+    is_forbidden = more[-1:] == ['forbidden']
+    name = ''.join(more[:len(more) - is_forbidden])
+    refers, uri = reference(namespace.strip('-'), type_word, name)
+    if type_word.startswith('/'):
+        refers, uri = None, type_word
+    elif verb == 'create' and '/' not in type_word:
+        uri = uri.rpartition('/')[0]
+    time = '2026-11-30T14:%02d:%02d.0000%02dZ' % (2 + number // 60, number % 60, number % 100)
+    made = {'kind': 'Event', 'apiVersion': 'audit.k8s.io/v1', 'level': 'Metadata', 'auditID': '00000000-0000-4000-8000-%012d' % number,
+            'stage': 'ResponseComplete', 'requestURI': uri, 'verb': verb, 'user': audited_user(user)}
+    made.update({'impersonatedUser': audited_user(other)} if other else {})
+    made['sourceIPs'] = ['10.0.0.1']
+    made.update({'objectRef': refers} if refers else {})
+    decision, code = ('forbid', 403) if is_forbidden else ('allow', 201 if verb == 'create' else 200)
+    return {**made, 'responseStatus': {'metadata': {}, 'code': code}, 'requestReceivedTimestamp': time, 'stageTimestamp': time,
+            'annotations': {'authorization.k8s.io/decision': decision, 'authorization.k8s.io/reason': ''}}
+
+
+def log():
+    """The audit log: a line an event."""
+    events = [event(number, line) for number, line in enumerate(AUDITED.strip().split('\n'))]
+    return ''.join(json.dumps(it, separators=(',', ':')) + '\n' for it in events)
+
+
 # ---- files
 
 def written(items):
@@ -490,6 +597,7 @@ def files():
     }
     yield from ((name, written(items)) for name, items in made.items())
     yield from (('api-%s.json' % version.replace('/', '-'), api_list(version)) for version in API)
+    yield 'audit.log', log()
     yield 'universe.json', '{"apiVersion": "rbacaudit/v1", "kind": "Universe", "names": [""]}\n'
 
 

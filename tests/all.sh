@@ -1,10 +1,10 @@
 #!/usr/bin/env bash
 # The whole gate: each edit still fits, every proof, must-fail edit and test by `rt ci`, a wrong body of each public function, over
 # the libraries that `rt ci` has built, how wrong bodies are chosen and tried, what only a process can show, the hull's package by
-# itself, the kubectl plugin, completions and man page, the page in a browser, lines as tables
-# and as JSON, what make dist packs, random matrices, universes, rules, answers of why not, changes, powers and paths, bad documents,
-# refused memory, reads and writes, and each public call by itself. The last line counts all of it, as `N passed, M failed`. Above it
-# stands what the gate took; if a test skipped something that this machine lacks, a line between the two says what.
+# itself, the kubectl plugin, completions and man page, the page in a browser, lines as tables and as JSON, what make dist packs,
+# random matrices, universes, rules, answers of why not, changes, powers and paths, and audit logs, bad documents, refused memory,
+# reads and writes, and each public call by itself. The last line counts all of it, as `N passed, M failed`. Above it stands what the
+# gate took; if a test skipped something that this machine lacks, a line between the two says what.
 set -u
 cd "$(dirname "$0")/.."
 log=$(mktemp)
@@ -63,6 +63,7 @@ counted python3 tests/rules.py
 counted python3 tests/why_not.py
 counted python3 tests/diff.py
 counted python3 tests/paths.py
+counted python3 tests/unused.py
 counted python3 tests/memory.py
 counted python3 tests/fuzz.py 1 2000
 counted python3 tests/calls.py --once

@@ -23,11 +23,12 @@ import sys
 import tempfile
 import threading
 
+import memory_logs
 from common import PODS, PROGRAM, TOP, V1, V1BETA1, checked, export, tested, worked_examples
 from meaning import document_text
 
 NO_MEMORY = b'rbacaudit: out of memory\n'
-READ_FAULTS = [b'rbacaudit: file %d: I1 read fault\n' % place for place in (1, 2, 3)]
+READ_FAULTS, LOG_FAULTS = ([b'rbacaudit: %s %d: I1 read fault\n' % (what, place) for place in (1, 2, 3)] for what in (b'file', b'log'))
 FULL = 65_536
 NEVER_LAST = 10 ** 9
 FEW = 20
@@ -311,6 +312,10 @@ def few_put_over(room):
     return of_sides(room, 'diff --without --with', {'before': WORKED, 'without': [gone, WORKED[4]], 'with': [CHANGED[0], CHANGED[4]]}, 1, CHANGES)
 
 
+def of_logs(room):
+    return [Case(*made(room)) for made in (memory_logs.few, memory_logs.few_of_two, memory_logs.none)]
+
+
 def few_lists():
     """The lists of the worked export, in which two names are long."""
     return Case('universe', ['universe'], export(*WORKED), 0, document_text({
@@ -414,8 +419,9 @@ def is_short_of_memory(whole, got):
 
 
 def is_read_fault(case):
-    """Whether an answer says which of the files of a case couldn't be read."""
-    return lambda _whole, got: got in [(2, b'', fault) for fault in READ_FAULTS[:case.files]]
+    """Whether an answer says which of the files or logs of a case couldn't be read."""
+    logs = LOG_FAULTS[:case.words.count('--log')]
+    return lambda _whole, got: got in [(2, b'', fault) for fault in READ_FAULTS[:case.files] + logs]
 
 
 def is_write_fault(whole, got):
@@ -557,6 +563,7 @@ def faults(room):
     yield Case('M11', ['who-can', 'get', 'pods'], many_grants(), 2, err='M11 too many grants', step=251)
     yield Case('P3', ['matrix'], export(*WORKED, universe(urls=['x'])), 2, err='P3 bad target')
     yield Case('P4', ['matrix'], many_targets(), 2, err='P4 universe too large', step=101)
+    yield from (Case(*answer) for answer in memory_logs.faults(room))
 
 
 def parser_texts():
@@ -590,8 +597,9 @@ def beginnings(shim, cases):
 
 def refused_memory(shim, room):
     """Every growth of memory in turn, and every growth from each on; two sweeps at a time."""
-    cases = [(case, False) for case in (*answers(), *examples(), *changes(room), *matrices(), *parser_texts(), *faults(room))]
-    cases += [(case, True) for case in (long_matrix(), long_bindings(), long_holders(), long_rules(), long_paths(), long_ways(), long_changes(room))]
+    cases = [(case, False) for case in (*answers(), *examples(), *changes(room), *of_logs(room), *matrices(), *parser_texts(), *faults(room))]
+    cases += [(case, True) for case in (long_matrix(), long_bindings(), long_holders(), long_rules(), long_paths(), long_ways(), long_changes(room),
+                                        Case(*memory_logs.long(room)))]
     cases += [(long_lists(), False)]
     begins = [*beginnings(shim, [case for case, _ in cases])]
     asked = [(case, must_cut, begin, mode) for (case, must_cut), begin in zip(cases, begins) for mode in (False, True)]
@@ -606,6 +614,7 @@ def failed_reads(shim, room):
     """Each read in turn, of an input that comes in pieces of 100 bytes and of one that comes byte by byte."""
     small = Case('can-i', ALICE_GETS_PODS, export(), 1, 'no\n')
     cases = (can_i(), 100), (few_rules(), 100), (few_reasons(), 100), (few_paths(), 100), (few_changes(room), 100), (few_put_over(room), 100), (small, 1)
+    cases += tuple((case, 100) for case in of_logs(room))
     for (case, piece), error in itertools.product(cases, (errno.EIO, errno.EINTR)):
         for mode in (False, True):
             met = sweep(shim, case, 'read', is_read_fault(case), error, mode, piece)
@@ -626,8 +635,9 @@ def endless_input(shim):
 
 def failed_writes(shim, room):
     """Each write in turn: of a long text as it is written in pieces, and of short ones that are taken at once or byte by byte."""
-    shorts = few_holders(), few_reasons(), each_binding(), few_rules(), few_paths(), few_ways(), few_changes(room), few_lists(), findings(), odd_names()
-    longs = (long_matrix(), 0), (long_matrix(), 10_000), (long_rules(), 0), (long_changes(room), 0), (long_lists(), 10_000)
+    shorts = few_holders(), few_reasons(), each_binding(), few_rules(), few_paths(), few_ways(), few_changes(room), few_lists(), findings(), odd_names(), \
+        Case(*memory_logs.few(room))
+    longs = (Case(*memory_logs.long(room)), 0), (long_matrix(), 0), (long_matrix(), 10_000), (long_rules(), 0), (long_changes(room), 0), (long_lists(), 10_000)
     pieces = [*longs, *itertools.product(shorts, (0, 1))]
     for (case, piece), error in itertools.product(pieces, (errno.ENOSPC, errno.EINTR, 0)):
         # (a short text that is taken at once is never cut)
@@ -705,7 +715,8 @@ def pipes():
 def disks_with_room(folder):
     """A disk with room for so many bytes: it gets them, and the line says how many."""
     listing = long_matrix()
-    shorts = can_i(), few_holders(), few_reasons(), few_rules(), few_paths(), few_changes(folder), few_lists()
+    shorts = can_i(), few_holders(), few_reasons(), few_rules(), few_paths(), few_changes(folder), few_lists(), \
+        Case(*memory_logs.few(folder))
     rooms = [(case, size) for case in shorts for size in range(len(case.whole[1]) + 1)]
     rooms += [(listing, size) for size in (FULL - 1, FULL, FULL + 1, 2 * FULL, len(listing.whole[1]) - 1)]
     wrong = [(case.name, size) for case, size in rooms if not fills(case, size)]

@@ -126,7 +126,7 @@ def fish_file():
     said = dict(re.findall(r"""^complete .* -a (\S+) -d '(.*)'$""", text, re.M))
     agrees('fish: the commands', said, commands(), is_short_for)
     text = re.sub(r"-k -a '[^']*' ", '', text.replace(' \\\n    ', ' '))
-    found = re.findall(r"^complete -c rbacaudit -n '__rbacaudit_(?:lacks (\S+)|words -ge 0) (.*)' (?:-s (\w) )?-l (\S+) (-x )?-d '(.*)'$", text, re.M)
+    found = re.findall(r"^complete -c rbacaudit -n '__rbacaudit_(?:lacks (\S+)|words -ge 0) (.*)' (?:-s (\w) )?-l (\S+) (-x |-r -F )?-d '(.*)'$", text, re.M)
     checked('fish: all options are told apart', len(found) == len(re.findall(r'^complete .*-l ', text, re.M)), repr(found))
     for command in ('', *commands()):
         wanted = options(*command.split())
@@ -363,10 +363,10 @@ def of_options():
             left = [others for others in here if others != names or may_be_repeated(text)]
             for name in names if text not in ('Print help', 'Print version') else ():
                 yield line + name + (' x' if value else '') + ' -', [other for others in left for other in others]
-                if value and value != 'FILE':
+                if value and value not in ('FILE', 'LOG'):
                     yield line + name + ' ', steps() if value == 'STEPS' else []
             if value:
-                if value not in ('FILE', 'STEPS'):
+                if value not in ('FILE', 'LOG', 'STEPS'):
                     yield line + names[-1] + '=', []
                 yield line + names[-1] + '=x --', [other for others in left for other in others if len(other) > 2]
 
@@ -401,7 +401,9 @@ def of_words():
     yield 'rbacaudit paths u:system:serviceaccount:shop:ci --steps=run --', ['--groups', '--group', '--to', '--namespace', '--help']
     yield 'rbacaudit paths --to u:kim -n shop --t', []
     yield 'rbacaudit paths --to u:kim ', []
-    yield 'rbacaudit u', ['universe']
+    yield 'rbacaudit u', ['universe', 'unused']
+    yield 'rbacaudit unused --', ['--log', '--skip-system', '--help']
+    yield 'rbacaudit unused --skip-system --log=a.log --', ['--log', '--help']
     yield 'rbacaudit matrix --once --', ['--every', '--after', '--limit', '--help']
     yield 'rbacaudit d', ['diff']
     yield 'rbacaudit diff --before a.json b.json --', ['--after', '--without', '--with', '--help']
@@ -430,6 +432,9 @@ OF_FILES = {
     'rbacaudit lint sub/': {'sub/c.json'},
     'rbacaudit lint -- a': {'a.json'},
     'rbacaudit lint --skip-system --only L1,L6 a': {'a.json'},
+    'rbacaudit unused --log ': {'a.json', 'b.json', 'sub'},
+    'rbacaudit unused --log a.log --log sub/': {'sub/c.json'},
+    'rbacaudit unused --log=notes.txt --skip-system a': {'a.json'},
     'rbacaudit diff --before ': {'a.json', 'b.json', 'sub'},
     'rbacaudit diff --before a.json b': {'b.json'},
     'rbacaudit diff --before a.json b.json --after a.json ': {'a.json', 'b.json', 'sub'},

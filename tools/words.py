@@ -24,6 +24,7 @@ from rbacaudit_kubectl import options as plugin  # noqa: E402
 KINDS = {
     'VERB': 'verb',  # help has three examples, and a line may have any verb: the usual ones are offered
     'FILE': 'file',  # an export is a file of JSON: such files are offered, and the folders on the way to them
+    'LOG': 'log',  # a log has any name
     'STEPS': 'step',  # the first of them is offered, as nothing is after a comma
 }
 # The words of a kind: the verbs of a server's requests, and those that Kubernetes checks beside them; and the steps of powers.
@@ -155,7 +156,8 @@ def in_quotes(text):
 
 def action(kind):
     """What zsh does to complete a word of this kind."""
-    return '_files -g "*.json(-.)"' if kind == 'file' else '(%s)' % WORDS[kind] if kind in WORDS else ' '
+    files = {'file': '_files -g "*.json(-.)"', 'log': '_files'}
+    return files[kind] if kind in files else '(%s)' % WORDS[kind] if kind in WORDS else ' '
 
 
 def in_zsh(option):
@@ -246,7 +248,8 @@ def fish_offers(program, commands):
 def options_in_fish(command):
     for it in command.options:
         condition = '__rbacaudit_words -ge 0' if it.again else '__rbacaudit_lacks ' + it.long[2:]
-        spelled = (['-s ' + it.short[1:]] if it.short else []) + ['-l ' + it.long[2:]] + (['-x'] if it.value else [])
+        valued = [] if not it.value else ['-r', '-F'] if it.kind() == 'log' else ['-x']
+        spelled = (['-s ' + it.short[1:]] if it.short else []) + ['-l ' + it.long[2:]] + valued
         yield condition + ' %s', (*spelled, *offered_in_fish(it.kind()), '-d ' + in_fish(shortened(it.text)))
 
 
