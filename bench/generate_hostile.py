@@ -13,6 +13,7 @@ KIND is one of
     names        N resources, and the name of one object, which has M bytes
     product      a rule of N API groups and N resources, and a user who has it
     bindings     N bindings of a user each
+    chain        N cluster roles, each of which lets one bind the next; the first is bound in M namespaces, or in the cluster if M is 0
     nested       a list of lists of N documents, each nested as deep as may be
     items        N items that are small objects
     members      an item of N small objects
@@ -103,6 +104,15 @@ def bindings(n, _):
     return [role('r', PODS), *(binding('b%d' % i, subject('User', 'u%d' % i)) for i in range(n))]
 
 
+def chain(n, m):
+    bind = '{"verbs":["bind"],"apiGroups":["rbac.authorization.k8s.io"],"resources":["clusterroles"],"resourceNames":["%s"]}'
+    roles = (role(name, bind % after) for name, after in zip(['r', *many(n - 1, 'r%d')], many(n, 'r%d')))
+    bound = binding('b', subject('User', 'u'))
+    homes = many(m, '"metadata":{"namespace":"n%d",')
+    in_homes = (bound.replace('"ClusterRoleBinding"', '"RoleBinding"').replace('"metadata":{', home) for home in homes)
+    return [*roles, role('r%d' % (n - 1), PODS), *(in_homes if m else [bound])]
+
+
 def nested(n, _):
     return ['{"kind":"x","y":%s}' % ('[' * 120 + ']' * 120)] * n
 
@@ -120,7 +130,7 @@ def collide(_n, _m):
 
 
 KINDS = {'ring': ring, 'all': select_all, 'steps': steps, 'expressions': expressions, 'values': values, 'labels': labels, 'groups': groups,
-         'names': names, 'product': product, 'bindings': bindings, 'nested': nested, 'items': items, 'members': members,
+         'names': names, 'product': product, 'bindings': bindings, 'chain': chain, 'nested': nested, 'items': items, 'members': members,
          'collide': collide}
 
 

@@ -60,6 +60,11 @@ for count in 500 1000 2000; do
 done
 hostile bindings 60000
 measure "60000 users by 60000 bindings" matrix --limit 1000
+for size in "1250 0" "2500 0" "5000 0" "125 50" "250 50" "500 50"; do
+    # shellcheck disable=SC2086
+    hostile chain $size
+    measure "${size% *} roles that bind one another in a chain, in ${size#* } namespaces" paths u:u
+done
 hostile nested 200000
 measure "values nested to the limit" can-i --as kim -A get pods
 hostile items 9000000

@@ -170,6 +170,27 @@ class World:
         return {'apiVersion': V1, 'kind': 'RoleBinding' if home else 'ClusterRoleBinding', 'roleRef': {'kind': 'ClusterRole', 'name': role},
                 'metadata': {'name': role, 'namespace': home} if home else {'name': role}, 'subjects': subjects}
 
+    def web(self):
+        """Roles that may bind one another by name: each the next one, or each all of them, and some gather the rules of another. The
+        first of them is bound in some namespaces, or in the whole cluster. Some rules also list a name that everything has, none."""
+        draw = self.draw
+        names = ['web%d' % number for number in range(draw.choice([2, 3, 4]))]
+        is_chain, gathers = draw.random() < 0.5, draw.random() < 0.4
+        for name, after in zip(names, [*names[1:], 'gone']):
+            rule = {'verbs': ['bind'], 'apiGroups': ['rbac.authorization.k8s.io'], 'resources': some(draw, ['clusterroles', 'roles'], 2),
+                    'resourceNames': ([after] if is_chain else names) + [''] * (draw.random() < 0.1)}
+            if draw.random() < 0.05:
+                del rule['resourceNames']
+            role = {'apiVersion': V1, 'kind': 'ClusterRole', 'metadata': {'name': name, 'labels': {'web': 'w'}}, 'rules': [rule]}
+            if gathers and name != names[-1] and draw.random() < 0.7:
+                role['aggregationRule'] = {'clusterRoleSelectors': [{'matchLabels': {'web': 'w'}}]}
+            yield role
+            for home in self.homes:
+                if draw.random() < 0.4:
+                    yield {'apiVersion': V1, 'kind': 'Role', 'metadata': {'name': name, 'namespace': home}, 'rules': [rule]}
+        for home in some(draw, [*self.homes, None]):
+            yield self.bound(names[0], home, [('user', name, None) for name in some(draw, self.users, 2)])
+
     def items(self):
         """Some objects are there twice, and the later one replaces the other."""
         draw = self.draw
@@ -177,6 +198,7 @@ class World:
         items += [self.role('Role', name, home) for name in self.roles for home in self.namespaces if draw.random() < 0.7]
         is_chain = draw.random() < 0.4
         items += self.chain() if is_chain else ()
+        items += self.web() if draw.random() < 0.4 else ()
         items += [self.binding() for _ in range(draw.randint(0, 3) if is_chain else draw.randint(5, 12))]
         items += [self.account() for _ in range(draw.randint(0, 4))]
         draw.shuffle(items)

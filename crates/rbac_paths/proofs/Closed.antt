@@ -100,7 +100,7 @@ module _ (p : PolicyView) (ok : IsPolicy p) where
 
 -- ---- rows that bind roles by name
 
-abbrev bind_by_name : Text → Over → StepRowView
+abbrev pub bind_by_name : Text → Over → StepRowView
 bind_by_name resource over = row Bind names.Own counted.InNamespaces (codes "bind" ∷ []) rbac (resource ∷ []) over
 
 abbrev bind_all : StepRowView
@@ -109,7 +109,7 @@ bind_all = row Bind names.None counted.InNamespaces (codes "bind" ∷ []) rbac (
 abbrev escalate_roles : StepRowView
 escalate_roles = row Escalate names.Any counted.InNamespaces (codes "escalate" ∷ []) rbac (codes "roles" ∷ []) over.EverythingInNamespace
 
-over_cluster_role : (o : Over) (counts : Counts) (role : ClusterRole) (scope : Option Text) (namespace own : Text) → IsOver o counts (ClusterRoleIn role scope) namespace own → o ≡ over.ClusterRoles
+pub over_cluster_role : (o : Over) (counts : Counts) (role : ClusterRole) (scope : Option Text) (namespace own : Text) → IsOver o counts (ClusterRoleIn role scope) namespace own → o ≡ over.ClusterRoles
 over_cluster_role over.Users counts role scope namespace own is = elim is [ ]
 over_cluster_role over.Groups counts role scope namespace own is = elim is [ ]
 over_cluster_role over.Bootstrappers counts role scope namespace own is = elim is [ ]
@@ -120,7 +120,7 @@ over_cluster_role over.Nothing counts role scope namespace own is = elim is [ ]
 over_cluster_role over.ClusterRoles counts role scope namespace own is = refl
 over_cluster_role over.Roles counts role scope namespace own is = elim is [ ]
 
-over_role : (o : Over) (counts : Counts) (role : Role) (namespace own : Text) → IsOver o counts (OwnRole role) namespace own → o ≡ over.Roles
+pub over_role : (o : Over) (counts : Counts) (role : Role) (namespace own : Text) → IsOver o counts (OwnRole role) namespace own → o ≡ over.Roles
 over_role over.Users counts role namespace own is = elim is [ ]
 over_role over.Groups counts role namespace own is = elim is [ ]
 over_role over.Bootstrappers counts role namespace own is = elim is [ ]
@@ -151,12 +151,12 @@ abbrev over_roles : Over → Bool
 over_roles over.Roles = true
 over_roles _ = false
 
-one_of_cluster_roles : (r : StepRowView) → Contains table r → r.over ≡ over.ClusterRoles → r ≡ bind_by_name (codes "clusterroles") over.ClusterRoles
+pub one_of_cluster_roles : (r : StepRowView) → Contains table r → r.over ≡ over.ClusterRoles → r ≡ bind_by_name (codes "clusterroles") over.ClusterRoles
 one_of_cluster_roles r c is =
     let kept : Contains (bind_by_name (codes "clusterroles") over.ClusterRoles ∷ []) r = is_kept (λ x. over_cluster_roles x.over) table r c (ap over_cluster_roles is) in
     sym (one_element (bind_by_name (codes "clusterroles") over.ClusterRoles) r kept)
 
-one_of_roles : (r : StepRowView) → Contains table r → r.over ≡ over.Roles → r ≡ bind_by_name (codes "roles") over.Roles
+pub one_of_roles : (r : StepRowView) → Contains table r → r.over ≡ over.Roles → r ≡ bind_by_name (codes "roles") over.Roles
 one_of_roles r c is =
     let kept : Contains (bind_by_name (codes "roles") over.Roles ∷ []) r = is_kept (λ x. over_roles x.over) table r c (ap over_roles is) in
     sym (one_element (bind_by_name (codes "roles") over.Roles) r kept)

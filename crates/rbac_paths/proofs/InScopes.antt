@@ -1,14 +1,16 @@
 -- In which scopes a node takes over roles, or everything in a namespace: only by `bind` and
 -- `escalate`.
-use Rattle.std.proofs.Common.{◌≡◌, ◌⊎◌, Bool, false, true, List, [], ◌∷◌, None, Option, Some, Contains, ap, arith, inl, inr, refl, subst, sym}
+use Rattle.std.proofs.Common.{◌≡◌, ◌∙◌, ◌⊎◌, Bool, false, true, List, [], ◌∷◌, None, Option, Some, Contains, ap, arith, inl, inr, refl, subst, sym}
+use Rattle.rbac_terms.specs.Matching.{NameMatches}
 use Rattle.rbac_terms.specs.Text.{Text}
+use Rattle.rbac_terms.specs.declared.matching.Rule.{Rule}
 use Rattle.rbac_model.proofs.OwnWords.{any_from}
 use Rattle.rbac_model.specs.Policies.{PolicyView}
 use Rattle.rbac_paths.specs.Having.{HoldingView}
-use Rattle.rbac_paths.specs.Joints.{AreOverOthers, AreScoped, CountsAt, DecideOn, IsNobody, IsOverNobody, IsRole, MayTakeBy, SomeMayTake, scope_at}
+use Rattle.rbac_paths.specs.Joints.{AreOverOthers, AreScoped, DecideOn, IsNobody, IsOverNobody, IsRole, MayAsk, MayTakeBy, SomeMayTake, name_at, scope_at}
 use Rattle.rbac_paths.specs.Nodes.{NodeView, Somebody, ClusterRoleIn, OwnRole, EverythingIn}
 use Rattle.rbac_paths.specs.Steps.{StepRowView, table}
-use Rattle.rbac_paths.specs.Taking.{IsOver}
+use Rattle.rbac_paths.specs.Taking.{IsOver, RowTakes}
 use Rattle.rbac_paths.specs.TakingOver.{HasAll, IsUntold, TakesOver, WritesRoles}
 use Rattle.rbac_paths.specs.Told.{HoldingTakes, HoldingsHaveAll, HoldingsTake}
 use Rattle.rbac_steps.specs.declared.steps.Step.{Step}
@@ -17,7 +19,7 @@ use Rattle.rbac_paths.specs.declared.table.Counts.{Counts}
 use Rattle.rbac_paths.specs.declared.table.Counts.TheVariants as counted
 use Rattle.rbac_paths.specs.declared.table.Over.{Over}
 use Rattle.rbac_paths.specs.declared.table.Over.TheVariants as over
-use Rattle.rbac_paths.proofs.Closed.{is_kept}
+use Rattle.rbac_paths.proofs.Closed.{is_kept, one_of_cluster_roles, one_of_roles, over_cluster_role, over_role}
 use Rattle.rbac_paths.proofs.Others.{about_node, counts_there, matches_step, over_nobody}
 use Rattle.rbac_paths.proofs.Untold.{has_all}
 
@@ -113,11 +115,24 @@ in_all p steps x (ClusterRoleIn role (Some namespace)) is all = inr (inl all)
 in_all p steps x (OwnRole role) is all = inr all
 in_all p steps x (EverythingIn scope) role all = elim role [ ]
 
+-- a rule that takes over a role has its name, or isn't limited to names
+named_by : (y : NodeView) (home : Option Text) (rule : Rule) (row : StepRowView) → Contains table row → IsNobody y → RowTakes row home rule y → NameMatches rule.resource_names (name_at y) ⊎ (name_at y ≡ [])
+named_by (Somebody who) home rule row c nobody w = elim nobody [ ]
+named_by (EverythingIn scope) home rule row c nobody w = inr refl
+named_by (ClusterRoleIn role scope) home rule row c nobody w =
+    let same = one_of_cluster_roles row c (over_cluster_role row.over row.counts role scope w.namespace w.own w.over) in
+    let v = subst (λ (r : StepRowView). RowTakes r home rule (ClusterRoleIn role scope)) same w in
+    inl (subst (λ (n : Text). NameMatches rule.resource_names n) (v.named ∙ v.over.1) v.allows.1.2)
+named_by (OwnRole role) home rule row c nobody w =
+    let same = one_of_roles row c (over_role row.over row.counts role w.namespace w.own w.over) in
+    let v = subst (λ (r : StepRowView). RowTakes r home rule (OwnRole role)) same w in
+    inl (subst (λ (n : Text). NameMatches rule.resource_names n) (v.named ∙ v.over.1) v.allows.1.2)
+
 module _ (p : PolicyView) (steps : List Step) (x : NodeView) (hs : List HoldingView) (decide : DecideOn p steps x hs IsNobody) where
   -- such a node is taken over by `bind` or `escalate`, in a scope where a holding counts whose rule
-  -- matches such a row
+  -- matches such a row and may have the node's name
   by_writing : (y : NodeView) → IsNobody y → (y ≡ EverythingIn None → ⊥) → (t : TakesOver p steps x y)
-      → WritesRoles t.0 × ((h : HoldingView) × Contains hs h × MayTakeBy h.rule t.0 × CountsAt (scope_at y) h)
+      → WritesRoles t.0 × ((h : HoldingView) × Contains hs h × MayTakeBy h.rule t.0 × MayAsk y h)
   unfolding HoldingsTake HoldingTakes
   by_writing y nobody other t =
       let a = (decide t.0 y t.1.among nobody).1 t.1.can in
@@ -131,7 +146,7 @@ module _ (p : PolicyView) (steps : List Step) (x : NodeView) (hs : List HoldingV
         | inl one ↦ one
         | inr wide ↦ absurd (other (whole y w.namespace w.own (subst (λ (c : Counts). IsOver over.Everything c y w.namespace w.own) wide.1 (subst (λ (o : Over). IsOver o row.counts y w.namespace w.own) wide.0 w.over))))
       ] in
-      (subst WritesRoles rule.4.0 writing, (h, (a.0, a.2, a.3), matches_step h y t.0 nobody rule, counts_there h y t.0 nobody rule))
+      (subst WritesRoles rule.4.0 writing, (h, (a.0, a.2, a.3), matches_step h y t.0 nobody rule, record { counts = counts_there h y t.0 nobody rule; named = named_by y h.home h.rule row (rule.0, rule.2, rule.3) nobody w }))
 
   pub scoped_none : HasAll p steps x None → AreScoped p steps x []
   scoped_none all y nobody other t = absurd (t.1.told (by_writing y nobody other t).0 (untold p steps x y nobody other all))
@@ -145,7 +160,7 @@ module _ (p : PolicyView) (steps : List Step) (x : NodeView) (hs : List HoldingV
         | inl bind ↦ subst (λ (s : Step). Contains (by.Bind ∷ by.Escalate ∷ []) s) (sym bind) (0, omega arith, refl)
         | inr escalate ↦ subst (λ (s : Step). Contains (by.Bind ∷ by.Escalate ∷ []) s) (sym escalate) (1, omega arith, refl)
       ] in
-      any_from (CountsAt (scope_at y)) few h ((are h).1 (w.1.1, any_from (MayTakeBy h.rule) (by.Bind ∷ by.Escalate ∷ []) t.0 among w.1.2)) w.1.3
+      any_from (MayAsk y) few h ((are h).1 (w.1.1, any_from (MayTakeBy h.rule) (by.Bind ∷ by.Escalate ∷ []) t.0 among w.1.2)) w.1.3
 
   -- roles in a scope where these steps take over everything are left out
   pub included : (y : NodeView) → IsRole y → HoldingsHaveAll steps hs (scope_at y) → ¬ TakesOver p steps x y

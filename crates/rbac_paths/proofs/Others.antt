@@ -171,6 +171,6 @@ module _ (p : PolicyView) (steps : List Step) (x : NodeView) (ys : List NodeView
   ) where
     there : IsOther p steps x ys j → Contains places j
     there (y, at, nobody, t) = elim (whole_or_other y) [
-      | inl whole ↦ asked.in_cluster j y at nobody (ap scope_at whole) (counts_whole p steps x few decide y nobody whole t)
-      | inr other ↦ asked.by_scope j y at nobody (in_scopes y nobody other t)
+      | inl whole ↦ asked.in_cluster j (at ∙ ap Some whole) (counts_whole p steps x few decide y nobody whole t)
+      | inr other ↦ asked.may j y at nobody (in_scopes y nobody other t)
     ]

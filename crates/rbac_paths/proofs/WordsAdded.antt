@@ -1,5 +1,5 @@
 -- Words, or anything else, added one after another.
-use Rattle.std.proofs.Common.{◌≡◌, ◌∙◌, ◌++◌, ◌∷◌, [], ◌↔◌, ◌+◌, ◌<◌, ℕ, List, Any, Contains, ap, arith, inl, inr, length, subst, sym, take}
+use Rattle.std.proofs.Common.{◌≡◌, ◌∙◌, ◌++◌, ◌∷◌, [], ◌⊎◌, ◌↔◌, ◌+◌, ◌<◌, ℕ, List, Any, Contains, ap, arith, inl, inr, length, subst, sym, take}
 use Rattle.std.specs.Prelude.{get_or}
 use Rattle.std.proofs.lemmas.List.{take_all, take_more}
 use Rattle.std.proofs.lemmas.List.Elements.{Contains-append_cases, Contains-append_left, Contains-append_right, Contains-push, Contains-push_cases}
@@ -36,6 +36,20 @@ module _ {Y : Type 0} where
   adds_same Is Also same old new adds w = (
     λ h. elim ((adds w).0 h) [ inl was ↦ inl was | inr is ↦ inr ((same w).0 is) ],
     λ h. elim h [ inl was ↦ (adds w).1 (inl was) | inr is ↦ (adds w).1 (inr ((same w).1 is)) ],
+  )
+
+  -- one after the other is added
+  pub adds_both : (Is Also : Y → Type 0) (a b c : List Y) → AddsWhere Is a b → AddsWhere Also b c → AddsWhere (λ w. Is w ⊎ Also w) a c
+  adds_both Is Also a b c first second w = (
+    λ h. elim ((second w).0 h) [
+      | inl mid ↦ (elim ((first w).0 mid) [ inl old ↦ inl old | inr is ↦ inr (inl is) ])
+      | inr is ↦ inr (inr is)
+    ],
+    λ h. elim h [
+      | inl old ↦ (second w).1 (inl ((first w).1 (inl old)))
+      | inr (inl is) ↦ (second w).1 (inl ((first w).1 (inr is)))
+      | inr (inr is) ↦ (second w).1 (inr is)
+    ],
   )
 
   -- what some of these have is added

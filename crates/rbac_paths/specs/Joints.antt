@@ -1,9 +1,10 @@
 -- How the graph of nodes is joined: users and groups by words, and the other nodes one by one. The
 -- other nodes are roles, and everything in a scope.
-use Rattle.std.specs.Prelude.{◌≡◌, ◌↔◌, ◌⊎◌, ℕ, ◌<◌, List, [], ◌∷◌, Option, None, Some, All, Any}
-use Rattle.std.specs.Prelude.{Contains, IsTrue, length, slice_get, slice_index_or}
+use Rattle.std.specs.Prelude.{◌≡◌, ◌↔◌, ◌⊎◌, ℕ, ◌<◌, List, [], ◌∷◌, ◌++◌, Option, None, Some, All, Any}
+use Rattle.std.specs.Prelude.{Contains, IsTrue, codes, length, slice_get, slice_index_or}
 use Rattle.std.specs.Option.{option_copied}
 use Rattle.rbac_terms.specs.Text.{Text}
+use Rattle.rbac_terms.specs.Matching.{NameMatches}
 use Rattle.rbac_terms.specs.Principals.{Who}
 use Rattle.rbac_terms.specs.declared.matching.Rule.{Rule}
 use Rattle.rbac_model.specs.Policies.{GrantView, PolicyView}
@@ -111,48 +112,94 @@ scope_at (ClusterRoleIn role scope) = scope
 scope_at (OwnRole role) = Some role.namespace
 scope_at (EverythingIn scope) = scope
 
--- the word for the scope of one of the other nodes: the namespace, or the empty text for the whole
--- cluster
-abbrev pub scope_words : NodeView → List Text
-scope_words (Somebody who) = []
-scope_words (ClusterRoleIn role scope) = scope_namespace scope ∷ []
-scope_words (OwnRole role) = role.namespace ∷ []
-scope_words (EverythingIn scope) = scope_namespace scope ∷ []
+-- the name of one of the other nodes: a role's name; everything in a scope has none
+abbrev pub name_at : NodeView → Text
+name_at (Somebody who) = []
+name_at (ClusterRoleIn role scope) = role.name
+name_at (OwnRole role) = role.name
+name_at (EverythingIn scope) = []
+
+-- the word for the other nodes in a scope: in the namespace, or in the whole cluster if it is empty
+abbrev pub in_scope : Text → Text
+in_scope namespace = codes "S" ++ namespace
+
+-- the word for the other nodes with that name, in any scope
+abbrev pub named : Text → Text
+named name = codes "N" ++ name
+
+-- the word for the other nodes with that name in that scope
+abbrev pub named_in : Text → Text → Text
+named_in name namespace = ((codes "M" ++ name) ++ codes "/") ++ namespace
+
+-- the words by which a node with that name in that scope is found
+abbrev pub words_at : Text → Text → List Text
+words_at name namespace = in_scope namespace ∷ named name ∷ named_in name namespace ∷ []
+
+-- the words by which one of the other nodes is found
+abbrev pub other_words : NodeView → List Text
+other_words (Somebody who) = []
+other_words (ClusterRoleIn role scope) = words_at role.name (scope_namespace scope)
+other_words (OwnRole role) = words_at role.name role.namespace
+other_words (EverythingIn scope) = words_at [] (scope_namespace scope)
 
 -- these words of each of the first `count` nodes
-abbrev pub AreScopeWords : List NodeView → ℕ → List (List Text) → Type 0
-AreScopeWords ys count all = (length all ≡ count) × ((k : ℕ) (y : NodeView) → k < count
-    → slice_get ys k ≡ Some y → slice_index_or all k [] ≡ scope_words y)
+abbrev pub AreOtherWords : List NodeView → ℕ → List (List Text) → Type 0
+AreOtherWords ys count all = (length all ≡ count) × ((k : ℕ) (y : NodeView) → k < count
+    → slice_get ys k ≡ Some y → slice_index_or all k [] ≡ other_words y)
 
--- the places of the other nodes: all of them, and those in each scope
+-- the places of the other nodes: all of them, and those that are found by each word
 pub record OthersView : Type 0 where
   pub places : List ℕ
-  pub by_scope : ByWordView
+  pub by_word : ByWordView
 
 -- exactly the places of the other nodes of the list
 pub record AreAmongOthers (ys : List NodeView) (o : OthersView) : Type 0 where
   pub places : AreOtherPlaces ys o.places
-  pub by_scope : (w : Text) (j : ℕ) → HasUnder o.by_scope w j
-      ↔ IsAt (λ y. Contains (scope_words y) w) ys j
+  pub by_word : (w : Text) (j : ℕ) → HasUnder o.by_word w j
+      ↔ IsAt (λ y. Contains (other_words y) w) ys j
 
 -- the holding counts in the scope: its rule counts there, or in the whole cluster
 abbrev pub CountsAt : Option Text → HoldingView → Type 0
 CountsAt scope h = (h.home ≡ None) ⊎ (h.home ≡ scope)
 
--- each role, and everything in a namespace, that x takes over is in a scope where one of the
--- holdings counts
+-- the holding may take over y by its scope and its names: its rule counts there, and isn't limited
+-- to names, or lists the name of y; everything in a scope has no name
+pub record MayAsk (y : NodeView) (h : HoldingView) : Type 0 where
+  pub counts : CountsAt (scope_at y) h
+  pub named : NameMatches h.rule.resource_names (name_at y) ⊎ (name_at y ≡ [])
+
+-- each role, and everything in a namespace, that x takes over is one that one of the holdings may
+-- take over by its scope and its names
 abbrev pub AreScoped : PolicyView → List Step → NodeView → List HoldingView → Type 0
 AreScoped p steps x hs = (y : NodeView) → IsNobody y → ¬ (y ≡ EverythingIn None) → TakesOver p steps x y
-    → Any (CountsAt (scope_at y)) hs
+    → Any (MayAsk y) hs
 
--- places of other nodes: among them each in a scope where one of the `scoped` holdings counts, and,
--- if one of the `few` counts in the whole cluster, each in the whole cluster
+-- the holding counts in the whole cluster, and its rule isn't limited to names
+abbrev pub AsksAll : HoldingView → Type 0
+AsksAll h = (h.home ≡ None) × (h.rule.resource_names ≡ [])
+
+-- the word for what a rule that counts in `home` may take over: what has that name, or whatever is
+-- in the namespace if there is none
+abbrev pub asked_word : Option Text → Option Text → Text
+asked_word None (Some name) = named name
+asked_word (Some home) (Some name) = named_in name home
+asked_word home None = in_scope (scope_namespace home)
+
+-- the node at place j is found by a word of the holding: for a name that its rule lists, for
+-- everything in a scope, or for any name if the rule lists none
+abbrev pub IsAskedBy : ByWordView → HoldingView → ℕ → Type 0
+IsAskedBy n h j = Any (λ name. HasUnder n (asked_word h.home (Some name)) j) h.rule.resource_names
+    ⊎ (HasUnder n (asked_word h.home (Some [])) j
+    ⊎ ((h.rule.resource_names ≡ []) × HasUnder n (asked_word h.home None) j))
+
+-- places of other nodes: among them each that one of the `scoped` holdings may take over by its
+-- scope and its names, and, if one of the `few` counts in the whole cluster, everything there
 pub record AreAskedPlaces (ys : List NodeView) (few scoped : List HoldingView) (places : List ℕ)
     : Type 0 where
   pub others : All (IsAt IsNobody ys) places
-  pub by_scope : (j : ℕ) (y : NodeView) → slice_get ys j ≡ Some y → IsNobody y
-      → Any (CountsAt (scope_at y)) scoped → Contains places j
-  pub in_cluster : (j : ℕ) (y : NodeView) → slice_get ys j ≡ Some y → IsNobody y → scope_at y ≡ None
+  pub may : (j : ℕ) (y : NodeView) → slice_get ys j ≡ Some y → IsNobody y
+      → Any (MayAsk y) scoped → Contains places j
+  pub in_cluster : (j : ℕ) → slice_get ys j ≡ Some (EverythingIn None)
       → Any (CountsAt None) few → Contains places j
 
 -- by each of the steps, the holdings can take over the same nodes as x, among those that it is

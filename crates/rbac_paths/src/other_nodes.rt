@@ -2,15 +2,15 @@
 //! groups: roles, and everything in a scope.
 
 ghost use Rattle.std.specs.Prelude.{◌≡◌, ◌<◌, ◌↔◌, ◌∷◌, [], All, Any, Contains, IfOk, IsTrue, List};
-ghost use Rattle.std.specs.Prelude.{None, OnOk, length, map, ℕ};
+ghost use Rattle.std.specs.Prelude.{None, OnOk, Some, length, map, ℕ};
 ghost use Rattle.std.specs.Option.{option_copied};
 ghost use Rattle.rbac_model.specs.Policies.{PolicyView};
 ghost use Rattle.rbac_ways.specs.Joining.{HasUnder};
 ghost use Rattle.rbac_paths.specs.Joints.{AreAmongOthers, AreAskedPlaces};
-ghost use Rattle.rbac_paths.specs.Joints.{AreOthers, AreOthersAt, AreOverOthers, AreScopeWords};
-ghost use Rattle.rbac_paths.specs.Joints.{AreScoped, CountsAt, DecideOn, IsNobody, IsOverOthersAt};
-ghost use Rattle.rbac_paths.specs.Joints.{IsRole, OthersView, SeesAll, SomeMayTake, scope_at};
-ghost use Rattle.rbac_paths.specs.Joints.{scope_words};
+ghost use Rattle.rbac_paths.specs.Joints.{AreOtherWords, AreOthers, AreOthersAt, AreOverOthers};
+ghost use Rattle.rbac_paths.specs.Joints.{AreScoped, AsksAll, CountsAt, DecideOn, IsAskedBy, IsNobody};
+ghost use Rattle.rbac_paths.specs.Joints.{IsOverOthersAt, IsRole, OthersView, SeesAll, SomeMayTake};
+ghost use Rattle.rbac_paths.specs.Joints.{asked_word, named_in, other_words, scope_at, words_at};
 ghost use Rattle.rbac_paths.specs.Nodes.{NodeView, node_of};
 ghost use Rattle.rbac_paths.specs.SharedWords.{AddsWhere};
 ghost use Rattle.rbac_paths.specs.Takeovers.{HaveTakeovers};
@@ -23,44 +23,36 @@ ghost use Rattle.rbac_steps.specs.declared.steps.Step.TheVariants.{Bind, Escalat
 use crate::holding::Holding;
 use crate::node::Node;
 use crate::rule_takeovers::RuleTakeovers;
-use crate::seeking::{Sought, is_nobody, places_of};
+use crate::seeking::{Sought, places_of};
 use crate::takeover::some_is_over_nobody;
 use crate::taking::scope_namespace;
 use crate::told::{StepRows, first_told, has_all};
+use crate::words::word;
 use rbac_model::Policy;
 use rbac_terms::{Items, Word, Words};
 use rbac_ways::NodesByWord;
 use std::alloc::{AllocError, Global};
 use std::marker::Model;
 
-/// The places of the other nodes in a list of nodes: all of them, and those in each scope. Most
-/// nodes of a list are users and groups.
+/// The places of the other nodes in a list of nodes: all of them, and those that can be had by each
+/// word (`words_at`). Most nodes of a list are users and groups.
 pub(crate) struct Others {
     places: Vec<usize>,
-    in_cluster: Vec<usize>,
-    by_scope: NodesByWord,
+    by_word: NodesByWord,
 }
 
 impl Drop for Others {
     fn drop(self) {
-        let Self {
-            places,
-            in_cluster,
-            by_scope,
-        } = self;
+        let Self { places, by_word } = self;
     }
 }
 
 impl Model for Others {
-    ghost use Rattle.std.specs.Prelude.{◌↔◌, ℕ, Contains, []};
-    ghost use Rattle.rbac_ways.specs.Joining.{HasUnder};
     ghost use Rattle.rbac_paths.specs.Joints.{OthersView};
 
     ghost Value = { OthersView };
 
-    ghost view = { λ o. record { places = o.places.items; by_scope = o.by_scope } };
-
-    ghost invariant = { λ o. (j : ℕ) → Contains o.in_cluster.items j ↔ HasUnder o.by_scope [] j };
+    ghost view = { λ o. record { places = o.places.items; by_word = o.by_word } };
 }
 
 impl Others {
@@ -69,52 +61,82 @@ impl Others {
         ensures { IfOk result (AreAmongOthers (map node_of nodes.now)) }
     {
         let places = places_of(alloc, nodes, Sought::Nobody)?;
-        let scopes = scopes_of_others(alloc, nodes)?;
-        let by_scope = NodesByWord::of(alloc, scopes.as_slice())?;
-        let mut in_cluster = Vec::new(alloc);
-        in_cluster.extend_from_slice(by_scope.under(&Word::new(alloc)))?;
-        Ok(Others {
-            places,
-            in_cluster,
-            by_scope,
-        })
-    }
-
-    // The places of the other nodes in this scope.
-    fn at(&self, scope: Option<&Word>) -> &[usize]
-        ensures { (j : ℕ) → Contains result.now j
-            ↔ HasUnder self.now.by_scope (scope_namespace (option_copied scope.entry)) j }
-    {
-        match scope {
-            Some(namespace) => self.by_scope.under(namespace),
-            None => self.in_cluster.as_slice(),
-        }
+        let words = words_of_others(alloc, nodes)?;
+        let by_word = NodesByWord::of(alloc, words.as_slice())?;
+        Ok(Others { places, by_word })
     }
 }
 
-// For each of these nodes, the word for its scope; none for a user or a group.
-fn scopes_of_others(alloc: Global, nodes: &[Node<'_>]) -> Result<Vec<Words>, AllocError>
+// For each of these nodes, the words by which it is found; none for a user or a group.
+fn words_of_others(alloc: Global, nodes: &[Node<'_>]) -> Result<Vec<Words>, AllocError>
     ensures { IfOk result
-        (λ all. AreScopeWords (map node_of nodes.now) (length nodes.now) all.items) }
+        (λ all. AreOtherWords (map node_of nodes.now) (length nodes.now) all.items) }
 {
     let mut all = Vec::with_capacity(alloc, nodes.len())?;
     for node in nodes {
-        all.push(words_of_scope(alloc, *node)?)?;
+        all.push(words_of_other(alloc, *node)?)?;
     }
     Ok(all)
 }
 
-// The word for the scope of a role, or of everything; none for a user or a group.
-fn words_of_scope(alloc: Global, node: Node<'_>) -> Result<Words, AllocError>
-    ensures { IfOk result (λ ws. ws ≡ scope_words (node_of node.entry)) }
+// The words by which a role, or everything in a scope, is found; none for a user or a group.
+fn words_of_other(alloc: Global, node: Node<'_>) -> Result<Words, AllocError>
+    ensures { IfOk result (λ ws. ws ≡ other_words (node_of node.entry)) }
+{
+    match node {
+        Node::Somebody(_) => Ok(Words::new(alloc)),
+        Node::ClusterRole(role, scope) => {
+            words_at(alloc, role.name.as_bytes(), scope_namespace(scope))
+        }
+        Node::Role(role) => words_at(alloc, role.name.as_bytes(), role.namespace.as_bytes()),
+        Node::Everything(scope) => words_at(alloc, NO_NAME, scope_namespace(scope)),
+    }
+}
+
+// The words for a scope, for a name in any scope, and for that name in that scope.
+fn words_at(alloc: Global, name: &[u8], namespace: &[u8]) -> Result<Words, AllocError>
+    ensures { IfOk result (λ ws. ws ≡ words_at name.now namespace.now) }
 {
     let mut words = Words::new(alloc);
-    if is_nobody(node) {
-        let scope = scope_namespace(scope_at(node));
-        words.push(Word::from_slice(alloc, scope)?)?;
-    }
+    words.push(word(alloc, IN_SCOPE, namespace)?)?;
+    words.push(word(alloc, NAMED, name)?)?;
+    words.push(named_in(alloc, name, namespace)?)?;
     Ok(words)
 }
+
+// The word for a name in a scope.
+fn named_in(alloc: Global, name: &[u8], namespace: &[u8]) -> Result<Word, AllocError>
+    ensures { IfOk result (λ w. w ≡ named_in name.now namespace.now) }
+{
+    let mut both = word(alloc, NAMED_IN, name)?;
+    both.push(b'/')?;
+    both.push_slice(namespace)?;
+    Ok(both)
+}
+
+// The word for what a rule that counts in `home`, a namespace or the whole cluster, may take over:
+// what has this name, or whatever is in the namespace if there is none.
+fn asked_word(alloc: Global, home: Option<&Word>, name: Option<&Word>) -> Result<Word, AllocError>
+    ensures { IfOk result
+        (λ w. w ≡ asked_word (option_copied home.entry) (option_copied name.entry)) }
+{
+    match (home, name) {
+        (None, Some(name)) => word(alloc, NAMED, name.as_bytes()),
+        (Some(home), Some(name)) => named_in(alloc, name.as_bytes(), home.as_bytes()),
+        (home, None) => word(alloc, IN_SCOPE, scope_namespace(home)),
+    }
+}
+
+// The marks of the words by which other nodes are found: those for all nodes of a scope, for those
+// with a name, and for those with a name in a scope.
+const IN_SCOPE: u8 = b'S';
+
+const NAMED: u8 = b'N';
+
+const NAMED_IN: u8 = b'M';
+
+// The name of everything in a scope.
+const NO_NAME: &[u8] = b"";
 
 // The scope of a role, or of everything. `None` means the whole cluster; a user or a group also has
 // `None`.
@@ -238,9 +260,10 @@ fn counts_in_cluster(held: &Holding<'_>) -> bool
     held.home.is_none()
 }
 
-// The places of the other nodes that are to be checked, each once: those in scopes where one of the
-// `scoped` holdings counts, and, if one of the `few` counts in the whole cluster, those in the
-// whole cluster.
+// The places of the other nodes that are to be checked, each once: all of them, if one of the
+// `scoped` holdings may take over nodes of any scope and name; otherwise those in scopes where one
+// of these counts, with a name that it lists, and, if one of the `few` counts in the whole cluster,
+// everything there.
 fn places_to_ask(
     alloc: Global,
     few: &[Holding<'_>],
@@ -251,46 +274,128 @@ fn places_to_ask(
         → IfOk result (λ places. AreAskedPlaces ys few.now scoped.now places.items) }
 {
     let mut places = Vec::new(alloc);
-    if count_in_cluster(scoped) {
+    if some_asks_all(scoped) {
         places.extend_from_slice(others.places.as_slice())?;
         return Ok(places);
     }
-    add_in_cluster(few, others, &mut places)?;
-    add_in_scopes(scoped, others, &mut places)?;
+    let none = Word::new(alloc);
+    add_in_cluster(alloc, others, few, &none, &mut places)?;
+    add_of_holdings(alloc, others, scoped, &none, &mut places)?;
     places.sort_unstable();
     places.dedup();
     Ok(places)
 }
 
-// Adds the places of the other nodes in the whole cluster, if one of these holdings counts there.
+// Whether one of these holdings counts in the whole cluster, and isn't limited to names.
+fn some_asks_all(holdings: &[Holding<'_>]) -> bool
+    ensures { IsTrue result ↔ Any AsksAll holdings.now }
+{
+    holdings.iter().any(asks_all)
+}
+
+// Whether the holding counts in the whole cluster, and isn't limited to names.
+fn asks_all(held: &Holding<'_>) -> bool
+    ensures { IsTrue result ↔ AsksAll held.now }
+{
+    held.home.is_none() && held.rule.resource_names.is_empty()
+}
+
+// Adds the place of everything in the whole cluster, if one of these holdings counts there. `none`
+// is the empty name.
 fn add_in_cluster(
-    holdings: &[Holding<'_>],
+    alloc: Global,
     others: &Others,
+    holdings: &[Holding<'_>],
+    none: &Word,
     places: &mut Vec<usize>,
 ) -> Result<(), AllocError>
+    requires { none.now ≡ [] }
     ensures { OnOk result (AddsWhere
-        (λ j. Any (CountsAt None) holdings.now × HasUnder others.now.by_scope [] j)
+        (λ j. Any (CountsAt None) holdings.now × HasUnder others.now.by_word (named_in [] []) j)
         places.old.items places.new.items) }
 {
     if count_in_cluster(holdings) {
-        places.extend_from_slice(others.at(None))?;
+        return add_under(alloc, others, Some(none), Some(none), places);
     }
     Ok(())
 }
 
-// Adds the places of the other nodes in the scopes of these holdings.
-fn add_in_scopes(
-    holdings: &[Holding<'_>],
+// Adds the places of the other nodes that these holdings may take over, by their scopes and names.
+// `none` is the empty name.
+fn add_of_holdings(
+    alloc: Global,
     others: &Others,
+    holdings: &[Holding<'_>],
+    none: &Word,
     places: &mut Vec<usize>,
 ) -> Result<(), AllocError>
+    requires { none.now ≡ [] }
     ensures { OnOk result (AddsWhere
-        (λ j. Any (λ h. HasUnder others.now.by_scope (scope_namespace h.home) j) holdings.now)
+        (λ j. Any (λ h. IsAskedBy others.now.by_word h j) holdings.now)
         places.old.items places.new.items) }
 {
     for held in holdings {
-        places.extend_from_slice(others.at(held.home))?;
+        add_of_holding(alloc, others, held, none, places)?;
     }
+    Ok(())
+}
+
+// Adds the places of the other nodes that a holding may take over, by their scopes and names.
+// `none` is the empty name.
+fn add_of_holding(
+    alloc: Global,
+    others: &Others,
+    held: &Holding<'_>,
+    none: &Word,
+    places: &mut Vec<usize>,
+) -> Result<(), AllocError>
+    requires { none.now ≡ [] }
+    ensures { OnOk result (AddsWhere (IsAskedBy others.now.by_word held.now)
+        places.old.items places.new.items) }
+{
+    let names = held.rule.resource_names.as_slice();
+    add_named(alloc, others, held.home, names, places)?;
+    add_under(alloc, others, held.home, Some(none), places)?;
+    if names.is_empty() {
+        return add_under(alloc, others, held.home, None, places);
+    }
+    Ok(())
+}
+
+// Adds the places of the other nodes with one of these names, where a rule counts in `home`.
+fn add_named(
+    alloc: Global,
+    others: &Others,
+    home: Option<&Word>,
+    names: &[Word],
+    places: &mut Vec<usize>,
+) -> Result<(), AllocError>
+    ensures { OnOk result (AddsWhere
+        (λ j. Any (λ name. HasUnder others.now.by_word
+        (asked_word (option_copied home.entry) (Some name)) j) names.now)
+        places.old.items places.new.items) }
+{
+    for name in names {
+        add_under(alloc, others, home, Some(name), places)?;
+    }
+    Ok(())
+}
+
+// Adds the places of the other nodes that are found by a word (`asked_word`).
+fn add_under(
+    alloc: Global,
+    others: &Others,
+    home: Option<&Word>,
+    name: Option<&Word>,
+    places: &mut Vec<usize>,
+) -> Result<(), AllocError>
+    ensures { OnOk result (AddsWhere
+        (HasUnder others.now.by_word
+        (asked_word (option_copied home.entry) (option_copied name.entry)))
+        places.old.items places.new.items) }
+{
+    let asked = asked_word(alloc, home, name)?;
+    places.extend_from_slice(others.by_word.under(&asked))?;
     Ok(())
 }
 

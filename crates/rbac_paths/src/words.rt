@@ -107,8 +107,8 @@ fn marked(alloc: Global, parts: &[(u8, &[u8])]) -> Result<Words, AllocError>
     Ok(words)
 }
 
-// The word that has this mark and then the text.
-fn word(alloc: Global, mark: u8, text: &[u8]) -> Result<Word, AllocError>
+/// The word that has this mark and then the text.
+pub(crate) fn word(alloc: Global, mark: u8, text: &[u8]) -> Result<Word, AllocError>
     ensures { IfOk result (λ w. w ≡ mark ∷ text.now) }
 {
     let mut word = Word::new(alloc);

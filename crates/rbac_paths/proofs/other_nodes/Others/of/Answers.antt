@@ -2,7 +2,7 @@ use Rattle.std.proofs.Common.{◌↔◌, [], ℕ, List, Contains, get_or, map, s
 use Rattle.std.proofs.lemmas.List.{length-map}
 use Rattle.rbac_terms.specs.Text.{Text}
 use Rattle.rbac_ways.specs.Joining.{HasUnder}
-use Rattle.rbac_paths.specs.Joints.{AreScopeWords}
+use Rattle.rbac_paths.specs.Joints.{AreOtherWords}
 use Rattle.rbac_paths.specs.Nodes.{node_of}
 use Rattle.rbac_paths.proofs.OtherPlaces.{among_others}
 use Rattle.rbac_paths.proofs.other_nodes.Others.of.Goals as goal
@@ -10,12 +10,7 @@ use Rattle.rbac_paths.proofs.other_nodes.Others.of.Goals as goal
 pub returns : goal.returns
 returns c =
     let ys = map node_of c.args.nodes.now in
-    let all = c.in_ok-scopes.scopes.items in
-    let n = c.in_ok-by_scope.by_scope in
-    among_others ys all (subst (λ (k : ℕ). AreScopeWords ys k all) (sym (length-map c.args.nodes.now node_of)) c.in_ok-scopes.ensures) c.in_ok-places.places.items c.in_ok-places.ensures n
-    (subst (λ (ls : List (List Text)). (w : Text) (j : ℕ) → HasUnder n w j ↔ Contains (get_or ls j []) w) c.as_slice.ensures.value c.in_ok-by_scope.ensures)
-
-pub invariant_of-result : goal.invariant_of-result
-invariant_of-result c j =
-    rw (c.in_ok-extend_from_slice.ensures.items, c.new-in_cluster.ensures.items)
-    (subst (λ (w : Text). Contains c.under-2.result.now j ↔ HasUnder c.in_ok-by_scope.by_scope w j) c.new.ensures (c.under-2.ensures j))
+    let all = c.in_ok-words.words.items in
+    let n = c.in_ok-by_word.by_word in
+    among_others ys all (subst (λ (k : ℕ). AreOtherWords ys k all) (sym (length-map c.args.nodes.now node_of)) c.in_ok-words.ensures) c.in_ok-places.places.items c.in_ok-places.ensures n
+    (subst (λ (ls : List (List Text)). (w : Text) (j : ℕ) → HasUnder n w j ↔ Contains (get_or ls j []) w) c.as_slice.ensures.value c.in_ok-by_word.ensures)

@@ -1,7 +1,0 @@
-use Rattle.std.proofs.Common.{map}
-use Rattle.rbac_paths.specs.Joints.{AreScopeWords}
-use Rattle.rbac_paths.specs.Nodes.{node_of}
-use Rattle.rbac_paths.proofs.other_nodes.scopes_of_others.Given as goal
-
-abbrev pub invariant-loop-node : goal.invariant-loop-node
-invariant-loop-node l = AreScopeWords (map node_of l.nodes) l.node-index l.all.items
