@@ -15,7 +15,6 @@ pub mod Closed
 pub mod Counting
 pub mod Enough
 pub mod Entries
-pub mod Following
 pub mod GatheredRoles
 pub mod Gathering
 pub mod GivenGrants
@@ -34,11 +33,10 @@ pub mod NodeWords
 pub mod NodesAdded
 pub mod NodesInOrder
 pub mod NotSomebody
+pub mod OneLists
 pub mod OnePath
-pub mod OnePaths
 pub mod OnePowers
 pub mod OneReason
-pub mod OneWays
 pub mod OtherPlaces
 pub mod Others
 pub mod PathsFound
