@@ -24,9 +24,10 @@ pub mod GraphWays
 pub mod GrantWords
 pub mod Grants
 pub mod InScopes
-pub mod Keeping
 pub mod Kept
 pub mod KeysApart
+pub mod LinesFound
+pub mod LinesTold
 pub mod ListPlaces
 pub mod Mapped
 pub mod NodeWords
@@ -39,7 +40,6 @@ pub mod OnePowers
 pub mod OneReason
 pub mod OtherPlaces
 pub mod Others
-pub mod PathsFound
 pub mod PrincipalsWith
 pub mod Reasons
 pub mod RolePlaces
@@ -52,10 +52,7 @@ pub mod SharedWords
 pub mod Taken
 pub mod Takeovers
 pub mod Telling
-pub mod Tracing
 pub mod Untold
-pub mod WaysFound
-pub mod WaysTold
 pub mod WhatDecides
 pub mod WordsAdded
 pub mod WordsOfWhom
