@@ -16,7 +16,7 @@ use Rattle.rbac_paths.specs.Paths.{ArePaths, ArePathsOf, GoesTo, IsPath, LeadsTo
 use Rattle.rbac_paths.specs.Principals.{AreToldByKeys, IsOneWith}
 use Rattle.rbac_paths.specs.WaysTo.{AreWays, AreWaysTo, GoesBack, IsComeTo, IsWayOn, WayView}
 use Rattle.rbac_steps.specs.declared.steps.Step.{Step}
-use Rattle.rbac_paths.proofs.OnePaths.{paths_to}
+use Rattle.rbac_paths.proofs.OneLists.{paths_to}
 
 same_or_not : (a b : Text) → (a ≡ b) ⊎ (a ≢ b)
 same_or_not a b = decided (bytes_eq a b) refl

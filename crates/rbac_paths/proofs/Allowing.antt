@@ -32,14 +32,6 @@ allows_row r rule v g x n = record {
   allows = (v.4, (g, x.4, n.2));
 }
 
-pub row_allowed : (r : StepRowView) (rule : Rule) → AllowsRow r rule → Any (VerbOk rule) r.verbs × Any (λ w. WordMatches w r.group) rule.groups × Any (HasRowResource rule) r.resources × HasRowName r.names rule
-row_allowed r rule a = (
-  any_from (VerbOk rule) r.verbs a.verb a.of_verbs a.allows.0,
-  a.allows.1.0,
-  any_from (HasRowResource rule) r.resources a.text a.of_resources a.allows.1.1,
-  (a.name, a.named, a.allows.1.2),
-)
-
 -- requests for a node with its own name
 pub allows_row_for : (r : StepRowView) (own : Text) (rule : Rule) → Any (VerbOk rule) r.verbs → Any (λ w. WordMatches w r.group) rule.groups → Any (HasRowResource rule) r.resources → HasRowNameFor r.names own rule → AllowsRowFor r own rule
 allows_row_for r own rule v g x n = record {

@@ -37,10 +37,3 @@ pub live_counts : (counts : Counts) (own namespace group text name : Text) → L
 live_counts counted.ClusterWide own namespace group text name live = absurd (live.0 refl)
 live_counts counted.InNamespaces own namespace group text name live = (λ e. live.0 (sym live.1 ∙ e), live.1)
 live_counts counted.InKubeSystem own namespace group text name live = there_alone (bytes_eq namespace kube_system) own namespace refl live.0 live.1
-
--- a binding in a namespace is live for the requests of a row exactly if the row counts there
-pub live_where : (counts : Counts) (own namespace group text name : Text) → ((own ≡ namespace) × CountsThere counts namespace) ↔ Live (Some own) (asked_in counts namespace) (Resource group text name)
-live_where counts own namespace group text name = (
-  λ w. counts_live counts own namespace group text name (subst (CountsThere counts) (sym w.0) w.1) w.0,
-  λ live. (let w = live_counts counts own namespace group text name live in (w.1, subst (CountsThere counts) w.1 w.0)),
-)

@@ -8,17 +8,14 @@ use Rattle.std.proofs.lemmas.Map.Keys.{Less-from_sorted}
 use Rattle.rbac_terms.specs.Principals.{Who}
 use Rattle.rbac_terms.specs.Text.{Text, text_cmp}
 use Rattle.rbac_model.specs.Policies.{IsPolicy, PolicyView}
-use Rattle.rbac_ways.specs.Ways.{GraphView}
 use Rattle.rbac_paths.specs.BoundNames.{AreBoundNames}
 use Rattle.rbac_paths.specs.NodeLists.{AreNodes, IsNamedOf, IsNode}
 use Rattle.rbac_paths.specs.Nodes.{NodeView, Somebody, ClusterRoleIn, OwnRole, EverythingIn}
-use Rattle.rbac_paths.specs.Paths.{GoesTo, IsGraphOf}
 use Rattle.rbac_paths.specs.Searching.{AreEnough}
 use Rattle.rbac_paths.specs.TakingOver.{TakesOver}
 use Rattle.rbac_paths.specs.Told.{HasItsRole}
 use Rattle.rbac_steps.specs.declared.steps.Step.{Step}
 use Rattle.rbac_paths.proofs.Closed.{HasOwnRole, cluster_role_bound, role_bound}
-use Rattle.rbac_paths.proofs.GraphWays.{IsGraphBy, among}
 
 -- names in strict order are in order
 pub in_order : (names : List Text) → IsStrictlySortedBy text_cmp names → IsSorted text_cmp names
@@ -59,18 +56,3 @@ module _ (p : PolicyView) (all : List Who) where
         somebody = λ who c. (are.exact (Somebody who)).1 (c, tt);
         closed = λ x y c goes. (are.exact y).1 (goes.0, named x y ((are.exact x).0 c).0 goes.0 goes.1);
       }
-
--- the graph of such nodes, with the places of the nodes that are starts
-module _ (p : PolicyView) (all : List Who) (steps : List Step) (ys : List NodeView) (enough : AreEnough p all steps ys) (g : GraphView) (graph : IsGraphOf p steps ys g) where
-  pub graph_by : (IsStart : NodeView → Type 0) (starts : List ℕ) → ((j : ℕ) (y : NodeView) → slice_get ys j ≡ Some y → Contains starts j ↔ IsStart y) → ((y : NodeView) → IsStart y → Contains ys y) → IsGraphBy (GoesTo p all steps) IsStart ys g starts
-  graph_by IsStart starts start_at start_in = record {
-    len = graph.len;
-    edges = λ i j x y at there. (
-      λ e. (enough.nodes y (among ys j y there), (graph.edges i j x y at there).0 e),
-      λ goes. (graph.edges i j x y at there).1 goes.1,
-    );
-    start_at = start_at;
-    start_in = start_in;
-    closed = enough.closed;
-    ordered = enough.ordered;
-  }

@@ -14,8 +14,7 @@ use Rattle.rbac_paths.specs.NodeLists.{node_text}
 use Rattle.rbac_paths.specs.Nodes.{NodeView}
 use Rattle.rbac_paths.specs.OnePath.{Connects, IsChain, IsLastTo, IsPathTo, IsPrintedBefore, IsTo, IsWantedNext}
 use Rattle.rbac_paths.specs.Paths.{ArePaths, GoesTo, IsFewest, IsNearer, IsPath, PathView}
-use Rattle.rbac_paths.proofs.Following.{lead_back}
-use Rattle.rbac_paths.proofs.OnePaths.{ascend, one_count, one_path, path_name}
+use Rattle.rbac_paths.proofs.OneLists.{ascend, lead_back, one_count, one_path, path_name}
 use Rattle.rbac_steps.specs.declared.steps.Step.{Step}
 
 module _ {X : Type 0} (R : X → X → Type 0) where
@@ -80,7 +79,7 @@ module _ (p : PolicyView) (all : List Who) (steps : List Step) (start : NodeView
 
   -- paths with as many steps to nodes that are printed alike are one
   alike : (y z : PathView) → Contains xs y → Contains xs z → y.count ≡ z.count → node_text y.node ≡ node_text z.node → y ≡ z
-  alike y z a b counts texts = one_of_name path_name xs y z (ascend p all steps start xs are) a b (λ i. (counts i ∷ []) ∷ texts i ∷ [])
+  alike y z a b counts texts = one_of_name path_name xs y z (ascend (λ (x : PathView). x.count) (λ (x : PathView). x.node) xs are.ordered) a b (λ i. (counts i ∷ []) ∷ texts i ∷ [])
 
   module _ (to : Text) (scope : Option Text) where
     abbrev Walked : List PathView → List PathView → Type 0

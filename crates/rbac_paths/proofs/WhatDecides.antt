@@ -62,12 +62,6 @@ module _ (p : PolicyView) (steps : List Step) where
   numbers_within (OwnRole role) numbers are n c = absurd (let low = (subst (λ (ks : List ℕ). Contains ks n) are c).1 in omega (arith, low))
   numbers_within (EverythingIn scope) numbers are n c = absurd (let low = (subst (λ (ks : List ℕ). Contains ks n) are c).1 in omega (arith, low))
 
-pub given_none : (p : PolicyView) (hs : List HoldingView) → hs ≡ [] → GiveHoldings p [] hs
-given_none p hs empty h = (
-  λ c. absurd (let low = (subst (λ (ks : List HoldingView). Contains ks h) empty c).1 in omega (arith, low)),
-  λ w. absurd (let low = w.1.1 in omega (arith, low)),
-)
-
 pub given_more : (p : PolicyView) (numbers : List ℕ) (number : ℕ) (g : GrantView) → slice_get p.grants number ≡ Some g → (hs : List HoldingView) → GiveHoldings p numbers hs → GiveHoldings p (numbers ++ number ∷ []) (hs ++ grant_holding g ∷ [])
 given_more p numbers number g here hs give h = (
   λ c. elim (Contains-push_cases hs (grant_holding g) h c) [
@@ -116,9 +110,6 @@ decide_about p steps x hs decide y step z among about = decide step z among tt
 -- ---- the first of somebody's grants that takes over a node
 
 module _ (p : PolicyView) (step : Step) (y : NodeView) where
-  pub least_none : IsLeastTaking p step y [] None
-  least_none n c takes = let low = c.1 in omega (arith, low)
-
   module _ (numbers : List ℕ) (number : ℕ) where
     -- a number that isn't less than the least so far is skipped
     pub least_stays : (o : Option ℕ) → (MatchOption o (Unit {0}) (λ n. number < n) → ⊥) → IsLeastTaking p step y numbers o → IsLeastTaking p step y (numbers ++ number ∷ []) o

@@ -21,7 +21,3 @@ words_of_user (AsMember group) user is none same ws e = elim is [ ]
 pub words_of_group : (who : Who) (group : Text) → (IsAnyUser who → ⊥) → (IsBootstrapperGroup who → ⊥) → group ≡ who_name who → (ws : List Text) → ws ≡ group_words group → AreHadBy who ws
 words_of_group (AsUser name given) group isnt none same ws e = absurd (isnt tt)
 words_of_group (AsMember name) group isnt none same ws e = inl (none, e ∙ ap group_words same)
-
-pub words_of_bootstrapper : (who : Who) (group : Text) → IsBootstrapperGroup who → group ≡ who_name who → (ws : List Text) → ws ≡ bootstrapper_words group → AreHadBy who ws
-words_of_bootstrapper (AsUser name given) group is same ws e = elim is [ ]
-words_of_bootstrapper (AsMember name) group is same ws e = inr (is, e ∙ ap bootstrapper_words same)

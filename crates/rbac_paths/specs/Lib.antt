@@ -30,6 +30,5 @@ pub mod TakingOver
 pub mod Telling
 pub mod Told
 pub mod Tracing
-pub mod TracingWays
 pub mod WayLines
 pub mod WaysTo

@@ -1,37 +1,23 @@
 //! The nodes that come to a request, and the ways there.
 
-ghost use Rattle.std.specs.Prelude.{◌≡◌, ◌≢◌, ◌↔◌, All, IfOk, IsTrue};
-ghost use Rattle.std.specs.Prelude.{IsSome, MatchOption, None, map, slice_index_or};
+ghost use Rattle.std.specs.Prelude.{◌≡◌, IfOk, map};
 ghost use Rattle.rbac_model.specs.Lists.{IsAscendingBy};
-ghost use Rattle.rbac_model.specs.Policies.{IsPolicy};
 ghost use Rattle.rbac_model.specs.Unions.{who_texts};
-ghost use Rattle.rbac_ways.specs.Ways.{AreInOrder};
-ghost use Rattle.rbac_paths.specs.Access.{AllowsAccess, access_of};
-ghost use Rattle.rbac_paths.specs.Joints.{IsDeciding};
-ghost use Rattle.rbac_paths.specs.Nodes.{node_of};
-ghost use Rattle.rbac_paths.specs.Searching.{AreJoined};
-ghost use Rattle.rbac_paths.specs.Told.{HasItsRole};
-ghost use Rattle.rbac_paths.specs.TracingWays.{AllowAtEnds, AreLinkedOn, AreWaysAt, IsOwnWay};
-ghost use Rattle.rbac_paths.specs.TracingWays.{IsWayAt};
+ghost use Rattle.rbac_paths.specs.Access.{access_of};
 ghost use Rattle.rbac_paths.specs.WaysTo.{AreWaysTo};
 
 use crate::access::Access;
-use crate::aim::Aim;
-use crate::all_paths::last_step;
 use crate::allowed::places_of_allowing;
-use crate::deciding::{Deciding, deciding_at};
-use crate::graph::NodeGraph;
-use crate::holding::rule_of_all;
 use crate::node::Node;
-use crate::reason::{Reason, reason_of};
+use crate::reason::Reason;
 use crate::searching::search_of;
-use crate::seeking::{Sought, places_of};
-use crate::told::StepRows;
+use crate::seeking::Sought;
+use crate::tracing::{Direction, reached_from, traced};
 use rbac_model::Policy;
 use rbac_steps::Step;
 use rbac_subjects::SubjectIndex;
 use rbac_terms::Principal;
-use rbac_ways::{Reached, Stop, shortest_ways};
+use rbac_ways::shortest_ways;
 use std::alloc::{AllocError, Global};
 use std::marker::Model;
 
@@ -106,22 +92,15 @@ pub fn ways_to<'p>(
     let search = search_of(alloc, policy, index, all.as_slice(), steps)?;
     let rows = search.rows.as_slice();
     let nodes = search.nodes.as_slice();
-    let starts = places_of(alloc, nodes, Sought::Somebody)?;
-    let come = shortest_ways(alloc, &search.joined.graph, starts.as_slice())?;
+    let come = reached_from(alloc, &search, Sought::Somebody)?;
     let ends = places_of_allowing(alloc, policy, index, nodes, access)?;
-    let back = search.joined.graph.turned(alloc)?;
-    let reached = shortest_ways(alloc, &back, ends.as_slice())?;
-    let come = come.stops.as_slice();
-    ways_by(
-        alloc,
-        policy,
-        index,
-        rows,
-        access,
-        nodes,
-        &search.joined,
-        come,
-        &reached,
+    let turned = search.joined.graph.turned(alloc)?;
+    let reached = shortest_ways(alloc, &turned, ends.as_slice())?;
+    let stops = come.stops.as_slice();
+    let made = &search.joined;
+    let back = Direction::Back(access);
+    traced(
+        alloc, policy, index, rows, nodes, made, back, stops, &reached,
     )
 }
 
@@ -130,131 +109,4 @@ fn each_of<'p>(alloc: Global, principals: &'p [Principal]) -> Result<Vec<&'p Pri
     ensures { IfOk result (λ all. map (λ each. each.now) all.items ≡ principals.now) }
 {
     principals.iter().collect(alloc)
-}
-
-// The ways from the nodes that were reached. A node that no user or group comes to is left out.
-fn ways_by<'p>(
-    alloc: Global,
-    policy: &'p Policy,
-    index: &SubjectIndex<'p>,
-    steps: &[StepRows],
-    access: Access<'_>,
-    nodes: &[Node<'p>],
-    made: &NodeGraph,
-    come: &[Option<Stop>],
-    reached: &Reached,
-) -> Result<Vec<Way<'p>>, AllocError>
-    requires policy { IsPolicy policy.now }
-    requires index { index.now ≡ policy.now }
-    requires joined { AreJoined policy.now steps.now nodes.now made.now.grants.items
-        made.now.places.items }
-    requires linked { AreLinkedOn policy.now steps.now (map node_of nodes.now)
-        reached.now.stops.items }
-    requires ends { AllowAtEnds policy.now (access_of access) (map node_of nodes.now) reached.now.stops.items }
-    requires order { AreInOrder reached.now.stops.items reached.now.order.items }
-    ensures { IfOk result (λ found. AreWaysAt policy.now steps.now (access_of access.entry)
-        (map node_of nodes.now) come.now reached.now.stops.items reached.now.order.items
-        found.items) }
-{
-    let all = rule_of_all(alloc)?;
-    let stops = reached.stops.as_slice();
-    let mut ways = Vec::new(alloc);
-    for place in reached.order.as_slice() {
-        let way = if is_met(come, *place) {
-            let node = nodes[*place];
-            // (policy and index are lent anew, for as long as `all` lives)
-            let known = deciding_at(alloc, &*policy, &*index, &all, made, *place, node)?;
-            way_at(
-                alloc, policy, index, steps, access, nodes, &known, stops, *place,
-            )?
-        } else {
-            None
-        };
-        if let Some(way) = way {
-            ways.push(way)?;
-        }
-    }
-    Ok(ways)
-}
-
-// Whether the node at this place was met.
-fn is_met(stops: &[Option<Stop>], place: usize) -> bool
-    ensures { IsTrue result ↔ IsSome (slice_index_or stops.now place None) }
-{
-    matches!(stops.get(place), Some(Some(_)))
-}
-
-// The way from the node at this place, if one leads on from there. `known` decides which nodes it
-// takes over.
-fn way_at<'p>(
-    alloc: Global,
-    policy: &'p Policy,
-    index: &SubjectIndex<'p>,
-    steps: &[StepRows],
-    access: Access<'_>,
-    nodes: &[Node<'p>],
-    known: &Deciding<'_>,
-    stops: &[Option<Stop>],
-    place: usize,
-) -> Result<Option<Way<'p>>, AllocError>
-    requires policy { IsPolicy policy.now }
-    requires index { index.now ≡ policy.now }
-    requires held { All (HasItsRole policy.now.held) (map node_of nodes.now) }
-    requires known { IsDeciding policy.now steps.now (map node_of nodes.now) known.now }
-    requires place { known.now.place ≡ place }
-    requires linked { AreLinkedOn policy.now steps.now (map node_of nodes.now) stops.now }
-    requires ends { AllowAtEnds policy.now (access_of access) (map node_of nodes.now) stops.now }
-    ensures { IfOk result (λ way. MatchOption way (slice_index_or stops.now place None ≡ None)
-        (IsWayAt policy.now steps.now (access_of access.entry) (map node_of nodes.now) stops.now place)) }
-{
-    let Some(Some(stop)) = stops.get(place) else {
-        return Ok(None);
-    };
-    let Some(node) = nodes.get(place) else {
-        return Ok(None);
-    };
-    if stop.edges == 0 {
-        return own_way(alloc, policy, index, access, *node);
-    }
-    let Some(next) = nodes.get(stop.before) else {
-        return Ok(None);
-    };
-    let Some((step, reason)) = last_step(alloc, policy, index, steps, *node, known, *next)? else {
-        return Ok(None);
-    };
-    let node = *node;
-    let next = Some(Next { node: *next, step });
-    let count = stop.edges;
-    Ok(Some(Way {
-        count,
-        node,
-        next,
-        reason,
-    }))
-}
-
-// The way of no steps from a node, if the node allows the request.
-fn own_way<'p>(
-    alloc: Global,
-    policy: &'p Policy,
-    index: &SubjectIndex<'p>,
-    access: Access<'_>,
-    node: Node<'p>,
-) -> Result<Option<Way<'p>>, AllocError>
-    requires policy { IsPolicy policy.now }
-    requires index { index.now ≡ policy.now }
-    requires role { HasItsRole policy.now.held (node_of node) }
-    ensures { IfOk result (λ way. MatchOption way
-        (¬ AllowsAccess policy.now (access_of access.entry) (node_of node.entry))
-        (IsOwnWay policy.now (access_of access.entry) (node_of node.entry))) }
-{
-    let Some(reason) = reason_of(alloc, policy, index, node, Aim::Access(access))? else {
-        return Ok(None);
-    };
-    Ok(Some(Way {
-        count: 0,
-        node,
-        next: None,
-        reason,
-    }))
 }

@@ -32,6 +32,7 @@ mod table;
 mod takeover;
 mod taking;
 mod told;
+mod tracing;
 mod way_line;
 mod words;
 

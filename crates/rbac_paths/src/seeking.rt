@@ -3,8 +3,8 @@
 ghost use Rattle.std.specs.Prelude.{◌↔◌, ℕ, Contains, IfOk, IsTrue, map};
 ghost use Rattle.rbac_paths.specs.Joints.{IsNobody};
 ghost use Rattle.rbac_paths.specs.Nodes.{node_of};
-ghost use Rattle.rbac_paths.specs.Seeking.{IsSought};
-ghost use Rattle.rbac_paths.specs.Tracing.{HasKeyOf, IsAt, IsSomebody};
+ghost use Rattle.rbac_paths.specs.Seeking.{HasKeyOf, IsSomebody, IsSought};
+ghost use Rattle.rbac_paths.specs.Tracing.{IsAt};
 
 use crate::node::Node;
 use rbac_terms::Principal;

@@ -8,7 +8,7 @@ use Rattle.rbac_paths.specs.Nodes.{node_of}
 use Rattle.rbac_paths.specs.Told.{HasItsRole}
 use Rattle.rbac_paths.specs.Tracing.{IsAt}
 use Rattle.rbac_paths.proofs.Mapped.{mapped_at, mapped_has}
-use Rattle.rbac_paths.proofs.Tracing.{all_below, below_more, below_none, below_same, is_here}
+use Rattle.rbac_paths.proofs.LinesTold.{all_below, below_more, below_none, below_same, is_here}
 use Rattle.rbac_paths.proofs.allowed.places_of_allowing.Goals as goal
 use Rattle.rbac_paths.proofs.allowed.places_of_allowing.Goals.{then-branch+in_ok-push, else-branch}
 

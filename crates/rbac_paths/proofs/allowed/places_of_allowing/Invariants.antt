@@ -2,7 +2,7 @@ use Rattle.std.proofs.Common.{map}
 use Rattle.rbac_paths.specs.Access.{AllowsAccess, access_of}
 use Rattle.rbac_paths.specs.Nodes.{node_of}
 use Rattle.rbac_paths.specs.Tracing.{IsAt}
-use Rattle.rbac_paths.proofs.Tracing.{AreBelow}
+use Rattle.rbac_paths.proofs.LinesTold.{AreBelow}
 use Rattle.rbac_paths.proofs.allowed.places_of_allowing.Given as goal
 
 abbrev pub invariant-loop-place : goal.invariant-loop-place

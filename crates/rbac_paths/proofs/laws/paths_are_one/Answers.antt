@@ -1,4 +1,4 @@
-use Rattle.rbac_paths.proofs.OnePaths.{one_paths_of}
+use Rattle.rbac_paths.proofs.OneLists.{one_paths_of}
 use Rattle.rbac_paths.proofs.laws.paths_are_one.Goals as goal
 
 pub returns : goal.returns

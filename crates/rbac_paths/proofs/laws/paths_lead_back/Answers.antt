@@ -1,5 +1,5 @@
 use Rattle.rbac_paths.specs.Nodes.{Somebody}
-use Rattle.rbac_paths.proofs.Following.{lead_back}
+use Rattle.rbac_paths.proofs.OneLists.{lead_back}
 use Rattle.rbac_paths.proofs.laws.paths_lead_back.Goals as goal
 
 pub returns : goal.returns

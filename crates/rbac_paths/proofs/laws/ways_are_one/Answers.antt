@@ -1,4 +1,4 @@
-use Rattle.rbac_paths.proofs.OneWays.{one_ways_to}
+use Rattle.rbac_paths.proofs.OneLists.{one_ways_to}
 use Rattle.rbac_paths.proofs.laws.ways_are_one.Goals as goal
 
 pub returns : goal.returns

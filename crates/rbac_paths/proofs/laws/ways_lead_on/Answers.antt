@@ -1,4 +1,4 @@
-use Rattle.rbac_paths.proofs.Following.{lead_on}
+use Rattle.rbac_paths.proofs.OneLists.{lead_on}
 use Rattle.rbac_paths.proofs.laws.ways_lead_on.Goals as goal
 
 pub returns : goal.returns

@@ -7,7 +7,7 @@ use Rattle.rbac_paths.specs.TakingOver.{TakesOver}
 use Rattle.rbac_paths.specs.Nodes.{node_of}
 use Rattle.rbac_paths.proofs.Mapped.{mapped_at}
 use Rattle.rbac_paths.proofs.Kept.{kept_more, kept_none, kept_same}
-use Rattle.rbac_paths.proofs.Tracing.{is_here}
+use Rattle.rbac_paths.proofs.LinesTold.{is_here}
 use Rattle.rbac_paths.proofs.other_nodes.others_among.Goals as goal
 use Rattle.rbac_paths.proofs.other_nodes.others_among.Goals.{then-takes_other+in_ok-push, else-takes_other}
 

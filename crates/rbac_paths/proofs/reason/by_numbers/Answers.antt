@@ -4,7 +4,7 @@ use Rattle.rbac_paths.specs.Aims.{ToTakeOver}
 use Rattle.rbac_paths.specs.Asked.{AreAskedBy, AskedRowView}
 use Rattle.rbac_paths.specs.Deciding.{IsLeastTaking}
 use Rattle.rbac_paths.specs.Nodes.{node_of}
-use Rattle.rbac_paths.proofs.Tracing.{matched_none}
+use Rattle.rbac_paths.proofs.LinesTold.{matched_none}
 use Rattle.rbac_paths.proofs.WhatDecides.{least_first, match_some, none_taking}
 use Rattle.rbac_paths.proofs.reason.by_numbers.Goals as goal
 

@@ -6,7 +6,7 @@ use Rattle.rbac_paths.specs.Nodes.{node_of}
 use Rattle.rbac_paths.specs.Tracing.{IsAt}
 use Rattle.rbac_paths.specs.Seeking.{IsSought}
 use Rattle.rbac_paths.proofs.Mapped.{mapped_at}
-use Rattle.rbac_paths.proofs.Tracing.{all_below, below_more, below_same, is_here}
+use Rattle.rbac_paths.proofs.LinesTold.{all_below, below_more, below_same, is_here}
 use Rattle.rbac_paths.proofs.seeking.places_of.Goals as goal
 use Rattle.rbac_paths.proofs.seeking.places_of.Goals.{then-is_sought+in_ok-push, else-is_sought}
 

@@ -1,5 +1,5 @@
--- Paths, listed one after another by where their nodes are on shortest ways.
-use Rattle.std.proofs.Common.{◌≡◌, ◌≢◌, ◌↔◌, ◌∙◌, ◌<◌, ◌+◌, ◌++◌, ℕ, List, [], ◌∷◌, Option, MatchOption, None, Some, AllPairs, Contains, ap, ap₂, arith, get_or, inl, inr, length, refl, slice_get, subst, sym, take}
+-- Lines of paths and ways, listed one after another by where their nodes are on shortest ways.
+use Rattle.std.proofs.Common.{◌≡◌, ◌≢◌, ◌↔◌, ◌∙◌, ◌<◌, ◌+◌, ◌++◌, ◌⊎◌, ℕ, List, [], ◌∷◌, Option, MatchOption, None, Some, AllPairs, Contains, IsSome, ap, ap₂, arith, get_or, inl, inr, length, refl, slice_get, subst, sym, take}
 use Rattle.std.specs.declared.cmp.Ordering.TheVariants.{Less}
 use Rattle.std.proofs.lemmas.Bool.{cases_eq}
 use Rattle.std.proofs.lemmas.List.{get_or_default, get_or-take, length-take}
@@ -11,11 +11,16 @@ use Rattle.rbac_model.proofs.LabelSets.{any_push}
 use Rattle.rbac_model.specs.Policies.{PolicyView}
 use Rattle.rbac_ways.specs.Ways.{AreInOrder, IsMetBefore}
 use Rattle.rbac_ways.specs.declared.graph.Stop.{Stop}
+use Rattle.rbac_paths.specs.Joints.{DecidesOf, DecidingView, IsDeciding}
 use Rattle.rbac_paths.specs.NodeLists.{node_text}
-use Rattle.rbac_paths.specs.Nodes.{NodeView}
-use Rattle.rbac_paths.specs.Paths.{IsSooner, IsNearer, PathView}
+use Rattle.rbac_paths.specs.Nodes.{NodeView, node_of}
 use Rattle.rbac_paths.specs.TakingOver.{TakesOver}
-use Rattle.rbac_paths.specs.Tracing.{AreLinked, AreToldAt, IsAt, IsPathAt, IsUnled}
+use Rattle.rbac_paths.specs.Tracing.{Along, AreToldAt, IsAt, IsLineAt, IsLineOf, IsPassed, IsUnlisted, TakesAt, taker}
+use Rattle.rbac_paths.specs.WaysTo.{IsShorter, WayView}
+use Rattle.rbac_paths.specs.declared.access.Access.{Access}
+use Rattle.rbac_paths.specs.declared.node.Node.{Node}
+use Rattle.rbac_paths.specs.declared.tracing.Direction.{Direction}
+use Rattle.rbac_paths.specs.declared.tracing.Direction.TheVariants as toward
 use Rattle.rbac_steps.specs.declared.steps.Step.{Step}
 
 -- ---- places below a bound, one after another
@@ -59,58 +64,67 @@ module _ (P : ℕ → Type 0) where
 pub is_here : (Is : NodeView → Type 0) (ys : List NodeView) (j : ℕ) (y : NodeView) → slice_get ys j ≡ Some y → IsAt Is ys j → Is y
 is_here Is ys j y at has = subst Is (same_Some has.0 y (sym has.1 ∙ at)) has.2
 
--- ---- one path
-
 -- what a match says of an option without a value, and of one with a value
 pub matched_none : {X : Type 0} (o : Option X) (N : Type 0) (P : X → Type 0) → ((x : X) → o ≡ Some x → ⊥) → MatchOption o N P → N
 matched_none None N P none m = m
 matched_none (Some x) N P none m = absurd (none x refl)
 
-pub matched : {X : Type 0} (o : Option X) (N : Type 0) (P : X → Type 0) → (o ≡ None → N) → ((x : X) → o ≡ Some x → P x) → MatchOption o N P
-matched None N P none some = none refl
-matched (Some x) N P none some = some x refl
-
 pub matched_some : {X : Type 0} (o : Option X) (N : Type 0) (P : X → Type 0) (x : X) → o ≡ Some x → MatchOption o N P → P x
 matched_some {X = X} o N P x is m = subst (λ (v : Option X). MatchOption v N P) is m
 
-module _ (p : PolicyView) (steps : List Step) (ys : List NodeView) (stops : List (Option Stop)) where
-  abbrev stop_at : ℕ → Option Stop
-  stop_at j = get_or stops j None
+-- ---- one line
 
-  pub unmet : (j : ℕ) → stop_at j ≡ None → IsUnled stops j
-  unmet j none s at = absurd (let both : None ≡ Some s = sym none ∙ at in cc)
+-- what holds of both nodes, or of both places, holds of the one that takes the step
+pub taker_has : {A : Type 0} (d : Direction) (P : A → Type 0) (x y : A) → P x → P y → P (taker d x y)
+taker_has toward.On P x y before here = before
+taker_has (toward.Back asked) P x y before here = here
 
-  pub start : (j : ℕ) (s : Stop) → stop_at j ≡ Some s → s.edges ≡ 0 → IsUnled stops j
-  start j s at none t there = ap (λ (x : Stop). x.edges) (same_Some t s (sym there ∙ at)) ∙ none
+pub taker_at : (d : Direction) (ys : List NodeView) (i j : ℕ) (x y : NodeView) → slice_get ys i ≡ Some x → slice_get ys j ≡ Some y → slice_get ys (taker d i j) ≡ Some (taker d x y)
+taker_at toward.On ys i j x y before here = before
+taker_at (toward.Back asked) ys i j x y before here = here
 
-  -- the node before takes over the node
-  pub takes_both : AreLinked p steps ys stops → (j : ℕ) (s : Stop) → stop_at j ≡ Some s → s.edges ≢ 0 → (x y : NodeView) → slice_get ys s.before ≡ Some x → slice_get ys j ≡ Some y → TakesOver p steps x y
-  takes_both linked j s at led x y before here =
-      let w = linked j s at led in
-      subst (λ (z : NodeView). TakesOver p steps z y) (same_Some w.0 x (sym w.2 ∙ before)) (subst (λ (z : NodeView). TakesOver p steps w.0 z) (same_Some w.1 y (sym w.3 ∙ here)) w.4)
+pub taker_of : (d : Direction) (x y : Node) → node_of (taker d x y) ≡ taker d (node_of x) (node_of y)
+taker_of toward.On x y = refl
+taker_of (toward.Back asked) x y = refl
 
-  -- ---- several paths
+pub unlisted : (d : Direction) (s : Stop) → s.edges ≡ 0 → ((asked : Access) → d ≡ toward.Back asked → ⊥) → IsUnlisted d s
+unlisted toward.On s none on = none
+unlisted (toward.Back asked) s none on = absurd (on asked refl)
 
-  module _ (up : AllPairs (λ y z. text_cmp (node_text y) (node_text z) ≡ Less) ys) where
-    printed : (i j : ℕ) (x y : NodeView) → i < j → slice_get ys i ≡ Some x → slice_get ys j ≡ Some y → text_cmp (node_text x) (node_text y) ≡ Less
-    printed i j x y low at there =
-        ap₂ (λ (a : NodeView) (b : NodeView). text_cmp (node_text a) (node_text b)) (sym (get_or_from_slice_get ys i x x at)) (sym (get_or_from_slice_get ys j y x there)) ∙ up i j x low (slice_get_within ys j y there)
+-- what is listed at a place with no stop, and at one with a stop
+pub passed_none : (d : Direction) (come stops : List (Option Stop)) (j : ℕ) → (get_or come j None ≡ None) ⊎ (get_or stops j None ≡ None) → IsPassed d come stops j
+passed_none d come stops j (inl none) = inl none
+passed_none d come stops j (inr none) = inr (λ s at. absurd (let both : None ≡ Some s = sym none ∙ at in cc))
 
-    -- a node that is met before another is listed before it
-    pub first_met : (i j : ℕ) (s t : Stop) (x y : NodeView) → IsMetBefore stops i j → stop_at i ≡ Some s → stop_at j ≡ Some t → slice_get ys i ≡ Some x → slice_get ys j ≡ Some y
-        → IsSooner s.edges t.edges x y
-    first_met i j s t x y met first second here there =
-        let one : s.edges ≡ met.0.edges = ap (λ (v : Stop). v.edges) (same_Some s met.0 (sym first ∙ met.2)) in
-        let two : t.edges ≡ met.1.edges = ap (λ (v : Stop). v.edges) (same_Some t met.1 (sym second ∙ met.3)) in
-        elim met.4 [
+pub line_there : (d : Direction) (p : PolicyView) (steps : List Step) (ys : List NodeView) (come stops : List (Option Stop)) (j : ℕ) (s : Stop) → IsSome (get_or come j None) → get_or stops j None ≡ Some s
+    → (o : Option WayView) → MatchOption o (IsUnlisted d s) (IsLineOf d p steps ys s j) → MatchOption o (IsPassed d come stops j) (IsLineAt d p steps ys come stops j)
+line_there d p steps ys come stops j s met at None un = inr (λ t that. subst (IsUnlisted d) (same_Some s t (sym at ∙ that)) un)
+line_there d p steps ys come stops j s met at (Some x) is = (met, (s, at, is))
+
+module _ (p : PolicyView) (steps : List Step) (ys : List NodeView) where
+  takes_both : (i j : ℕ) (x y : NodeView) → slice_get ys i ≡ Some x → slice_get ys j ≡ Some y → TakesAt p steps ys i j → TakesOver p steps x y
+  takes_both i j x y at there w =
+      subst (λ (z : NodeView). TakesOver p steps z y) (same_Some w.0 x (sym w.2 ∙ at)) (subst (λ (z : NodeView). TakesOver p steps w.0 z) (same_Some w.1 y (sym w.3 ∙ there)) w.4)
+
+  -- one of the nodes takes over the other
+  pub takes_along : (d : Direction) (i j : ℕ) (x y : NodeView) → slice_get ys i ≡ Some x → slice_get ys j ≡ Some y → Along d (TakesAt p steps ys) i j → Along d (TakesOver p steps) x y
+  takes_along toward.On i j x y before here takes = takes_both i j x y before here takes
+  takes_along (toward.Back asked) i j x y before here takes = takes_both j i y x here before takes
+
+  -- what decides about the one node at its place
+  pub deciding_there : (k : DecidingView) (at : ℕ) (x : NodeView) → slice_get ys at ≡ Some x → k.place ≡ at → DecidesOf p steps x k → IsDeciding p steps ys k
+  deciding_there k at x here same of = λ y there. subst (λ (z : NodeView). DecidesOf p steps z k) (same_Some x y (sym here ∙ subst (λ (i : ℕ). slice_get ys i ≡ Some y) same there)) of
+
+  -- a node that is met before another has its line before
+  module _ (up : AllPairs (λ y z. text_cmp (node_text y) (node_text z) ≡ Less) ys) (d : Direction) (come stops : List (Option Stop)) where
+    pub shorter : (i j : ℕ) (x y : WayView) → IsMetBefore stops i j → IsLineAt d p steps ys come stops i x → IsLineAt d p steps ys come stops j y → IsShorter x y
+    shorter i j x y (v, w, first, second, before) (met, (s, at, a)) (also, (t, there, b)) =
+        let one : x.count ≡ v.edges = a.count ∙ ap (λ (r : Stop). r.edges) (same_Some s v (sym at ∙ first)) in
+        let two : y.count ≡ w.edges = b.count ∙ ap (λ (r : Stop). r.edges) (same_Some t w (sym there ∙ second)) in
+        elim before [
           | inl fewer ↦ inl (omega (arith, fewer, one, two))
-          | inr same ↦ inr (one ∙ same.0 ∙ sym two, printed i j x y same.1 here there)
+          | inr (same, low) ↦ inr (one ∙ same ∙ sym two, ap₂ (λ (a : NodeView) (b : NodeView). text_cmp (node_text a) (node_text b)) (sym (get_or_from_slice_get ys i x.node x.node a.node)) (sym (get_or_from_slice_get ys j y.node x.node b.node)) ∙ up i j x.node low (slice_get_within ys j y.node b.node))
         ]
-
-    pub nearer : (i j : ℕ) (x y : PathView) → IsMetBefore stops i j → IsPathAt p steps ys stops i x → IsPathAt p steps ys stops j y → IsNearer x y
-    nearer i j x y met a b =
-        subst (λ (n : ℕ). IsSooner n y.count x.node y.node) (sym a.count)
-        (subst (λ (m : ℕ). IsSooner a.stop.edges m x.node y.node) (sym b.count) (first_met i j a.stop b.stop x.node y.node met a.at b.at a.node b.node))
 
 -- what is listed at places, one after another
 module _ {X : Type 0} (IsAt : ℕ → X → Type 0) (IsPassed : ℕ → Type 0) (ComesBefore : X → X → Type 0) where

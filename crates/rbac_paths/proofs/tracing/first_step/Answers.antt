@@ -8,9 +8,9 @@ use Rattle.rbac_paths.specs.Nodes.{node_of}
 use Rattle.rbac_paths.specs.Reasons.{IsReason, reason_view}
 use Rattle.rbac_paths.specs.Told.{IsFirstTold}
 use Rattle.rbac_steps.specs.declared.steps.Step.{Step}
-use Rattle.rbac_paths.proofs.Tracing.{matched_none, matched_some}
+use Rattle.rbac_paths.proofs.LinesTold.{matched_none, matched_some}
 use Rattle.rbac_paths.proofs.WhatDecides.{decide_about, numbers_within}
-use Rattle.rbac_paths.proofs.all_paths.last_step.Goals as goal
+use Rattle.rbac_paths.proofs.tracing.first_step.Goals as goal
 
 pub reason_by-requires-clause-within : goal.reason_by-requires-clause-within
 reason_by-requires-clause-within c =
