@@ -83,8 +83,8 @@ cluster (kubectl rbacaudit read --help). Standard error says how many roles and 
 still count.
 
 With --from and --to alone, the roles and bindings that Kubernetes itself makes count on both sides. r:ROLE in the place of WHO is whoever has this
-role elsewhere in the cluster, and "what ROLE gathers elsewhere" is what an aggregated role selects there. If nobody knows the role of a binding that
-changes, nothing is answered; --partial leaves such bindings out.
+role elsewhere in the cluster, and "what ROLE gathers elsewhere" is what an aggregated role selects there. If neither state nor Kubernetes has the
+role of a binding, nothing is answered; --partial leaves such bindings out, and standard error says which.
 
 A line begins with + for a permission that is gained, or with - for one that is lost; rbacaudit diff --help lists the fields. All requests of all
 users are compared, whether an export names them or not. The other options (--partial, -o, ..) mean what kubectl rbacaudit --help says. Exit status: 0

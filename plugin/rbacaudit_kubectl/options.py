@@ -31,7 +31,7 @@ AS_KUBECTL = 'as in kubectl'
 TARGETS = (Option('--context', 'NAME', 'context', AS_KUBECTL), Option('--kubeconfig', 'FILE', 'kubeconfig', AS_KUBECTL),
            Option('--request-timeout', 'TIME', 'timeout', AS_KUBECTL))
 OWN = (Option('--export', 'DIR', 'exports', 'answer from the export in DIR, without a cluster', True),
-       Option('--partial', '', 'partial', 'answer although a part of the export is missing'), *TARGETS)
+       Option('--partial', '', 'partial', 'answer although a part of the export is missing, or the roles of some bindings of manifests'), *TARGETS)
 SHOWN = (Option('-o,--output', 'FORMAT', 'format', 'table (on a terminal), wide, json, name, tsv: lines (elsewhere); lint, diff: sarif; paths: dot'),
          Option('--no-headers', '', 'headless', 'a table without its head'),
          Option('--color', 'WHEN', 'color', 'with colors: auto, always or never (rbacaudit-show --help)'))
