@@ -3,8 +3,8 @@
 plugin_room.py has the stand-in, plugin_exports.py the exports, plugin_questions.py the questions, plugin_paths.py those of paths,
 plugin_remarks.py what is said beside answers, plugin_changes.py and plugin_manifests.py changes and manifests, plugin_advice.py what is said behind errors,
 plugin_server.py both once more with kubectl itself, plugin_terminal.py what a terminal shows, plugin_show.py formats and summaries,
-plugin_sarif.py what code hosts get, plugin_access.py one person's access and graphs of paths, plugin_report.py reports, plugin_states.py what manifests alone don't know of a cluster, plugin_law.py the law of that,
-and plugin_applied.py what kubectl would do and the files don't say.
+plugin_sarif.py what code hosts get, plugin_access.py one person's access and graphs of paths, plugin_unused.py audit logs, plugin_report.py reports, plugin_states.py what manifests
+alone don't know of a cluster, plugin_law.py the law of that, and plugin_applied.py what kubectl would do and the files don't say.
 Here are the tools that the plugin needs, its texts, completions and man page, and make. What is
 skipped, since this machine lacks a tool, stands in the last line but one. The last line is
 `N passed, M failed`.
@@ -34,6 +34,7 @@ import plugin_server
 import plugin_show
 import plugin_states
 import plugin_terminal
+import plugin_unused
 from common import PROGRAM, TOP, checked, skipped, tested
 from plugin_room import KIM, PLUGIN, SHELLS, in_each_shell
 from shells import VERBS, commands, contents, options, options_in, renders, steps
@@ -69,7 +70,7 @@ def tools(it):
                        (['universe', '-h'], 'Universe document'), (['can-i', '--help'], '--why'),
                        (['who-can', '-Ah'], 'with kubectl rbacaudit who-can'), (['rules', '-h'], 'u:USER or g:GROUP'), (['matrix', '-h'], '--after'), (['lint', '--help'], 'dangling-role'), (['powers', '-h'], 'act as a user, a group'), (['paths', '-h'], 'with kubectl rbacaudit paths'),
                        (['diff', '--help'], 'objects that the change deletes'), (['diff', '-h'], 'folder with a kustomization'), (['read', '-h'], 'refused'),
-                       (['access', '-h'], 'a table of types by verbs'), (['access', '--help'], 'names are in the last column'), (['report', '--help'], 'stale aggregates')):
+                       (['unused', '-h'], 'no request of an audit log used'), (['access', '-h'], 'a table of types by verbs'), (['access', '--help'], 'names are in the last column'), (['report', '--help'], 'stale aggregates')):
         status, out, err = got = it.run(*line)
         it.checked('help: %s' % ' '.join(line), (status, err) == (0, '') and said.lower() in out.lower(), got)
     for line, options in ((['--help'],
@@ -79,10 +80,15 @@ def tools(it):
                            ['--force', '-n', '--context', '--kubeconfig', '--request-timeout',
                             '--as',
                                                   '--as-group']),
-                          (['access', '--help'], ['--groups', '--group', '-n', '-A', '-o']), (['report', '--help'], ['-o', '--export', '--partial'])):
+                          (['access', '--help'], ['--groups', '--group', '-n', '-A', '-o']), (['unused', '--help'], ['--log', '--skip-system', '-o']), (['report', '--help'], ['-o', '--export', '--partial'])):
         out = it.run(*line)[1]
         it.checked('%s fits a screen' % line, out.count('\n') <= 40 and max(map(len, out.splitlines())) <= 120, out)
         it.checked('%s has all options' % line, all(re.search(option + r'\b', out) for option in options), out)
+    for command in ('unused', 'diff', 'can-i'):
+        it.checked('help %s' % command, it.run('help', command) == it.run(command, '--help'), command)
+    it.checked('help alone', it.run('help') == it.run('--help'), 'another text')
+    it.expect('help of nothing', ['help', 'none'], 2, '', 'kubectl-rbacaudit: there is no command none; kubectl rbacaudit --help lists them\n')
+    it.expect('help of two', ['help', 'lint', 'diff'], 2, '', 'kubectl-rbacaudit: there is no command help; kubectl rbacaudit --help lists them\n')
     calls = it.lines('calls')
     it.checked('help asks no cluster', calls.count('|get|--raw|/apis') == 1, calls)
     status, out, err = got = it.run('can-i', *KIM, 'list', 'pods', preexec_fn=lambda: os.close(0))
@@ -123,11 +129,12 @@ OWN = {('--export',): 'DIR', ('--partial',): '', ('--context',): 'NAME', ('--kub
 SHOWN = {('-o', '--output'): 'FORMAT', ('--no-headers',): '', ('--color',): 'WHEN'}
 HELP = ('-h', '--help')
 OF_REPORT = {('-o', '--output'): 'FORMAT'}
-# The commands that rbacaudit hasn't, but universe.
-ALONE = ('access', 'read', 'universe', 'report', 'page', 'export')
+# The commands that rbacaudit hasn't, but universe, and unused, whose logs the plugin reads.
+ALONE = ('access', 'unused', 'read', 'universe', 'report', 'page', 'export')
 OF_PAGE = {('-n', '--namespace'): 'NS', ('--output',): 'FILE', ('--title',): 'TEXT',
            ('--diff',): 'FILE', ('--every',): ''}
 OF_READ = {('-n', '--namespace'): 'NS'}
+OF_UNUSED = {('--log',): 'LOG', ('--skip-system',): ''}
 BARE = {('--no-defaults',): ''}
 OF_DIFF = {('--with',): 'PATH', ('--without',): 'PATH', ('--from',): 'PATH', ('--to',): 'PATH', ('--summary',): '', ('--fail-on',): 'WHAT', ('--kustomize',): '', **BARE, **OF_READ}
 OF_EXPORT = {('--force',): '', ('-n', '--namespace'): 'NS', ('--context',): 'NAME',
@@ -135,7 +142,7 @@ OF_EXPORT = {('--force',): '', ('-n', '--namespace'): 'NS', ('--context',): 'NAM
              ('--request-timeout',): 'TIME', ('--as',): 'USER', ('--as-group',): 'GROUP'}
 NOTHING, FILES, FOLDERS = ':4', ':0', ':16'
 COMPLETED = [
-    ([''], ['can-i', 'who-can', 'rules', 'access', 'matrix', 'powers', 'paths', 'lint', 'diff', 'read', 'universe', 'report', 'page', 'export'], NOTHING),
+    ([''], ['can-i', 'who-can', 'rules', 'access', 'matrix', 'powers', 'paths', 'lint', 'unused', 'diff', 'read', 'universe', 'report', 'page', 'export'], NOTHING),
     (['a'], ['access'], NOTHING), (['access', ''], [], NOTHING), (['access', '-n', 'x', 'u:kim', ''], [], FILES), (['access', '-o', ''], ['table', 'wide', 'json'], NOTHING),
     (['r'], ['rules', 'read', 'report'], NOTHING), (['report', ''], [], NOTHING), (['report', '-o', ''], ['md', 'json', 'html'], NOTHING),
     (['report', '--output='], ['md', 'json', 'html'], NOTHING), (['paths', '-o', 'd'], ['dot'], NOTHING), (['paths', '--output=t'], ['table', 'tsv'], NOTHING),
@@ -167,6 +174,9 @@ COMPLETED = [
     (['page', '--title', ''], [], NOTHING), (['page', '--diff', ''], [], FILES),
     (['page', '--output', ''], [], FILES), (['page', '-n', ''], [], NOTHING),
     (['page', ''], [], FILES),
+    (['help', 'un'], ['unused', 'universe'], NOTHING), (['help', 'unused', ''], [], NOTHING),
+    (['u'], ['unused', 'universe'], NOTHING), (['unused', ''], [], FILES), (['unused', '--log', ''], [], FILES), (['unused', '--log='], [], FILES),
+    (['unused', '--log', 'x', '--log', 'y', '--l'], ['--log'], NOTHING), (['unused', '--s'], ['--skip-system'], NOTHING), (['unused', '-o', 'j'], ['json'], NOTHING),
     (['diff', ''], [], NOTHING), (['diff', '--with', ''], [], FILES), (['diff', '--to', ''], [], FILES), (['diff', '--without='], [], FILES),
     (['read', ''], [], FILES), (['read', '-n', ''], [], NOTHING),
     (['matrix', '-o', ''], ['table', 'wide', 'json', 'name', 'tsv'], NOTHING), (['can-i', '--output', 'j'], ['json'], NOTHING),
@@ -189,8 +199,8 @@ COMPLETED = [
 
 def options_of(command):
     """The options of a command, with their values: those of rbacaudit, and the plugin's own."""
-    if command in ('diff', 'read', 'export', 'universe', 'report', 'page'):
-        own = {'export': OF_EXPORT, 'universe': OWN, 'report': {**OWN, **OF_REPORT}, 'page': {**OWN, **OF_PAGE}, 'diff': {**OWN, **OF_DIFF, **SHOWN}, 'read': OF_READ}[command]
+    if command in ('diff', 'read', 'export', 'universe', 'report', 'page', 'unused'):
+        own = {'unused': {**OF_UNUSED, **OWN, **SHOWN}, 'export': OF_EXPORT, 'universe': OWN, 'report': {**OWN, **OF_REPORT}, 'page': {**OWN, **OF_PAGE}, 'diff': {**OWN, **OF_DIFF, **SHOWN}, 'read': OF_READ}[command]
         return {**own, HELP: ''}
     command = {'access': 'rules'}.get(command, command)
     return {**{names: value for names, (value, _) in options(command).items()}, **OWN, **SHOWN, **(BARE if command == 'lint' else {})}
@@ -214,7 +224,7 @@ def completions(it):
         got = offered(words_)
         it.checked('completions of %s' % words_, (sorted(got[0]), got[1]) == (sorted(found), last),
                    got)
-    for command in (*commands(), *ALONE):
+    for command in dict.fromkeys((*commands(), *ALONE)):
         here = options_of(command)
         got = offered([command, '-'])
         it.checked('the options of %s' % command,
@@ -223,7 +233,7 @@ def completions(it):
             for name in names if names != HELP else ():
                 got = offered([command, name, *['x'] * bool(value), '--'])[0]
                 wanted = [others[-1] for others in here if others != names
-                          or names in (('--group',), ('--as-group',)) or (command, name) == ('diff', '--export')]
+                          or names in (('--group',), ('--as-group',), ('--log',)) or (command, name) == ('diff', '--export')]
                 it.checked('%s %s is given once' % (command, name), sorted(got) == sorted(wanted),
                            got)
 
@@ -252,7 +262,7 @@ def in_kubectl():
 def man_page():
     """The man page has the options of help with their values, the version, and is rendered well."""
     text = contents(MAN)
-    wanted = {**OWN, **SHOWN, **OF_EXPORT, **OF_PAGE, **OF_DIFF, HELP: '', ('-V', '--version'): ''}
+    wanted = {**OWN, **SHOWN, **OF_EXPORT, **OF_PAGE, **OF_DIFF, ('--log',): 'LOG', HELP: '', ('-V', '--version'): ''}
     got = {names: value for names, (value, _) in options_in(text).items()}
     checked('man: the options', got == wanted, repr(got))
     checked('man: the version', '"kubectl\\-rbacaudit 0.1.0"' in text, text[:300])
@@ -293,5 +303,5 @@ def told(words_, folder, tools_=os.path.dirname(PROGRAM)):
 if __name__ == '__main__':
     sys.exit(tested(*plugin_exports.CHECKS, *plugin_questions.CHECKS, *plugin_paths.CHECKS, *plugin_remarks.CHECKS, *plugin_changes.CHECKS, *plugin_manifests.CHECKS, *plugin_advice.CHECKS,
                     *plugin_server.CHECKS, *plugin_terminal.CHECKS, *plugin_show.CHECKS, *plugin_sarif.CHECKS, *plugin_access.CHECKS, *plugin_report.CHECKS,
-                    *plugin_states.CHECKS, *plugin_applied.CHECKS, *plugin_law.CHECKS,
+                    *plugin_unused.CHECKS, *plugin_states.CHECKS, *plugin_applied.CHECKS, *plugin_law.CHECKS,
                     tools, script, make_run, completions, in_kubectl, man_page))

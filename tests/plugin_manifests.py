@@ -328,8 +328,20 @@ def taken_away(it):
         'check each kind and apiVersion in them\n'), got)
 
 
-UNKNOWN = ('kubectl-rbacaudit: nobody knows the roles of these bindings, so nothing is answered: %s; give a file with the role on both sides, or '
-           '--export DIR, an export of a cluster that has it; --partial leaves these bindings out\n')
+# Bindings whose roles nobody knows: each to its role, in its file.
+CHANGED = 'kubectl-rbacaudit: nobody knows the roles of these bindings, which come, go or change: %s\n'
+SAME = ("kubectl-rbacaudit: nobody knows the roles of these bindings, which are the same on both sides, so the change doesn't touch them: %s\n")
+DELETED = 'kubectl-rbacaudit: nobody knows whether the cluster keeps the roles of these bindings, which the change deletes: %s\n'
+UNANSWERED = ('kubectl-rbacaudit: nothing is answered, because these bindings may grant anything: give a file with each role on both sides, or --export DIR, '
+              'an export of a cluster that has it; --partial leaves these bindings out\n')
+LEFT = 'kubectl-rbacaudit: these bindings are left out: the answer has only what the others grant\n'
+
+
+def stands(key, to, file, number=1):
+    """A binding as such a list has it, with the number of its line if PyYAML tells that."""
+    return '%s to %s in %s%s' % (key, to, file, ' line %d' % number if yaml else '')
+
+
 # A branch and a change of it, which takes Bob away, lets Ann watch, and moves Kim to a role of the cluster.
 MAIN = {'main/rbac/roles.json': a_list('List', 'v1', role('r', 'a'), role('s', 'b')),
         'main/rbac/bindings.json': a_list('List', 'v1', bound('r', 'a', 'ann'), bound('s', 'b', 'bob'), bound('kim', 'a', 'kim', 'Role', 'r'))}
@@ -351,7 +363,7 @@ def states(it):
     got = without_cluster(it, 'diff', '--from=main/rbac', '--to=main/rbac')
     it.checked('the same', got == (0, '', 2 * read('main/rbac', '2 roles, 3 bindings, 0 other objects') + OWN), got)
     got = without_cluster(it, 'diff', *pair, '--no-defaults')
-    it.checked("without Kubernetes' own", got == (2, '', BOTH + UNKNOWN % 'RoleBinding/a/kim to ClusterRole/view'), got)
+    it.checked("without Kubernetes' own", got == (2, '', BOTH + CHANGED % stands('RoleBinding/a/kim', 'ClusterRole/view', 'change/rbac/b/kim.yaml') + UNANSWERED), got)
     put(it, {'prod/cluster.json': list_role('view'),
              'prod/namespaced.json': a_list('List', 'v1', role('r', 'a'), role('s', 'b'), bound('r', 'a', 'ann'), bound('s', 'b', 'bob'),
                                             bound('kim', 'a', 'kim', 'Role', 'r'), role('t', 'a'), bound('t', 'a', 'tim'))})
@@ -363,8 +375,9 @@ def states(it):
         item['metadata']['name'] = 'x%d' % number
     put(it, {'main/rbac/bindings.json': a_list('List', 'v1', *missing)})
     got = without_cluster(it, 'diff', *pair)
-    it.checked('roles that nobody knows', got == (2, '', BOTH.replace('3 bindings', '4 bindings') + OWN + UNKNOWN % (
-        'RoleBinding/a/x0 to Role/a/x, RoleBinding/a/x1 to ClusterRole/b, RoleBinding/a/x2 to ClusterRole/c')), got)
+    it.checked('roles that nobody knows', got == (2, '', BOTH.replace('3 bindings', '4 bindings') + OWN + CHANGED % ', '.join(
+        stands('RoleBinding/a/' + name, to, 'main/rbac/bindings.json') for name, to in (('x0', 'Role/a/x'), ('x1', 'ClusterRole/b'), ('x2', 'ClusterRole/c')))
+        + UNANSWERED), got)
     status, out, err = got = without_cluster(it, 'diff', '--from', '-', '--to', 'change/rbac', stdin=None, input=json.dumps(role('r', 'a')).encode())
     others = [line_ for line_ in out.splitlines(True) if not line_.startswith('+\tu:kim\ta\t')]
     it.checked('from standard input', status == 1 and others == [line('+', 'ann', 'a', 'get', 'r'), line('+', 'ann', 'a', 'watch', 'r')]

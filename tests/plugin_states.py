@@ -1,14 +1,15 @@
 """Two states of manifests alone: what they don't know of the cluster, and say all the same.
 
-Kubernetes' own roles are known. Whoever has a role elsewhere has it here, and what an aggregated role gathers elsewhere is told; a role that nobody
-knows is no reason to be silent. plugin_law.py has the law of it all.
+Kubernetes' own roles are known. Whoever has a role elsewhere has it here, and what an aggregated role gathers elsewhere is told; a binding to a role
+that nobody knows refuses the answer. plugin_law.py has the law of it all.
 """
 
 import json
 import os
 
 from common import TOP, V1
-from plugin_manifests import UNKNOWN, bound, put, role, with_manifests, without_cluster
+from local_kubectl import yaml
+from plugin_manifests import CHANGED, DELETED, LEFT, UNANSWERED, SAME, bound, put, role, stands, with_manifests, without_cluster
 from plugin_room import OWN, in_each_shell
 from plugin_sarif import results_of, seen
 from plugin_show import lines_of
@@ -169,33 +170,94 @@ def without_sides(it, before, after):
     return without_cluster(it, 'diff', '--from', 'before.json', '--to', 'after.json', '-o', 'sarif', '--no-defaults')
 
 
-LEFT = 'kubectl-rbacaudit: these bindings are left out, because nobody knows their roles: %s\n'
-SAME = 'kubectl-rbacaudit: nobody knows the roles of these bindings, which are the same on both sides, so they change nothing: %s\n'
+EVE, KIM, GONE = (bound(name, 'a', name, 'ClusterRole', to) for name, to in (('eve', 'prometheus'), ('kim', 'prometheus'), ('gone', 'ops')))
+OF_EVE, IN_BEFORE = (stands('RoleBinding/a/eve', 'ClusterRole/prometheus', file) for file in ('after.json', 'before.json'))
 
 
 @with_manifests
 def unknown(it):
-    """A binding to a role that nobody knows is refused, unless it is the same on both sides."""
-    eve, kim, gone = (bound(name, 'a', name, 'ClusterRole', to) for name, to in (('eve', 'prometheus'), ('kim', 'prometheus'), ('gone', 'ops')))
-    said = 'RoleBinding/a/eve to ClusterRole/prometheus'
-    got = compared_all(it, [OTHER], [OTHER, eve])
-    it.checked('a new binding', got[:2] == (2, []) and got[2].endswith(UNKNOWN % said), got)
-    got = compared_all(it, [OTHER, eve], [OTHER])
-    it.checked('a binding that goes', got[:2] == (2, []) and got[2].endswith(UNKNOWN % said), got)
-    got = compared_all(it, [OTHER, eve], [OTHER, {**eve, 'subjects': kim['subjects']}, kim])
-    it.checked('another subject', got[:2] == (2, []) and got[2].endswith(UNKNOWN % (said + ', ' + said.replace('eve', 'kim'))), got)
-    compared(it, 'the same binding', [OTHER, eve], [role('other', 'x', 'get', 'list'), eve], [change('+', 'r:Role/x/other', 'x', 'list', 'pods')],
-             said=SAME % 'RoleBinding/a/eve')
-    compared(it, '--partial', [OTHER], [role('other', 'x', 'get', 'list'), eve], [change('+', 'r:Role/x/other', 'x', 'list', 'pods')], '--partial',
-             said=LEFT % said)
+    """A binding to a role that neither state nor Kubernetes has is refused, in whichever state it is."""
+    for name, before, after, said in (
+            ('a new binding', [OTHER], [OTHER, EVE], CHANGED % OF_EVE), ('a binding that goes', [OTHER, EVE], [OTHER], CHANGED % IN_BEFORE),
+            ('another subject', [OTHER, EVE], [OTHER, {**EVE, 'subjects': KIM['subjects']}, KIM], CHANGED % (OF_EVE + ', ' + OF_EVE.replace('eve', 'kim'))),
+            ('another role', [OTHER, EVE], [OTHER, {**EVE, 'roleRef': GONE['roleRef']}],
+             CHANGED % (stands('RoleBinding/a/eve', 'ClusterRole/ops', 'after.json') + ', ' + IN_BEFORE)),
+            ('the same binding', [OTHER, EVE], [role('other', 'x', 'get', 'list'), EVE], SAME % OF_EVE), ('nothing changes', [EVE, OTHER], [OTHER, EVE], SAME % OF_EVE),
+            ('one that comes, and one that stays', [OTHER, EVE], [OTHER, EVE, KIM], CHANGED % OF_EVE.replace('eve', 'kim') + SAME % OF_EVE),
+            ('without subjects', [OTHER], [OTHER, {**EVE, 'subjects': []}], CHANGED % OF_EVE),
+            ('a Role of another namespace', [OTHER], [OTHER, bound('o', 'y', 'kim', 'Role', 'other')], CHANGED % stands('RoleBinding/y/o', 'Role/y/other', 'after.json')),
+            ('in the whole cluster', [OTHER, cluster_binding('all', 'ops', ('Group', 'g'))], [OTHER, cluster_binding('all', 'ops', ('Group', 'g'))],
+             SAME % stands('ClusterRoleBinding/all', 'ClusterRole/ops', 'after.json'))):
+        more = [['--fail-on', 'gains'], ['--fail-on', 'powers'], ['--summary'], ['-o', 'sarif']] if name == 'the same binding' else []
+        for options in ([], *more):
+            got = compared_all(it, before, after, *options)
+            it.checked('%s %s' % (name, options), got[:2] == (2, []) and got[2].endswith(OWN + said + UNANSWERED), got)
+    got = compared_all(it, [OTHER], [OTHER, cluster_binding('b', 'view', ('User', 'eve'))], '--no-defaults')
+    it.checked("a role that only Kubernetes has, without Kubernetes' own", got[:2] == (2, []) and got[2].endswith(
+        CHANGED % stands('ClusterRoleBinding/b', 'ClusterRole/view', 'after.json') + UNANSWERED), got)
     ops = cluster_role('ops', PODS)
-    compared(it, 'a role that goes, and its binding stays', [OTHER, ops, gone], [OTHER, gone],
+    compared(it, 'a role that goes, and its binding stays', [OTHER, ops, GONE], [OTHER, GONE],
              [change('-', 'r:ClusterRole/ops', '*', 'get', 'pods'), change('-', 'u:gone', 'a', 'get', 'pods', 'RoleBinding/a/gone')], said=OWN)
     # (kubectl apply deletes nothing, so somebody new may have that role)
-    got = compared_all(it, [OTHER, ops], [OTHER, gone])
-    it.checked('a role that goes, and a binding that comes', got[:2] == (2, []) and got[2].endswith(UNKNOWN % 'RoleBinding/a/gone to ClusterRole/ops'), got)
-    compared(it, 'a role that comes, and its binding was there', [OTHER, gone], [OTHER, ops, gone],
+    got = compared_all(it, [OTHER, ops], [OTHER, GONE])
+    it.checked('a role that goes, and a binding that comes', got[:2] == (2, []) and got[2].endswith(
+        OWN + DELETED % stands('RoleBinding/a/gone', 'ClusterRole/ops', 'after.json') + UNANSWERED), got)
+    compared(it, 'a role that comes, and its binding was there', [OTHER, GONE], [OTHER, ops, GONE],
              [change('+', 'r:ClusterRole/ops', '*', 'get', 'pods'), change('+', 'u:gone', 'a', 'get', 'pods', 'RoleBinding/a/gone')], said=OWN)
+
+
+@with_manifests
+def partial(it):
+    """--partial leaves out such bindings, says which, and answers over the rest as if they weren't there."""
+    wider = role('other', 'x', 'get', 'list')
+    gained = change('+', 'r:Role/x/other', 'x', 'list', 'pods')
+    for name, before, after, said in (
+            ('a new one', [OTHER], [wider, EVE], CHANGED % OF_EVE), ('one that goes', [OTHER, EVE], [wider], CHANGED % IN_BEFORE),
+            ('the same', [OTHER, EVE], [wider, EVE], SAME % OF_EVE), ('each kind', [OTHER, EVE, cluster_role('ops')], [wider, EVE, KIM, GONE],
+            CHANGED % OF_EVE.replace('eve', 'kim') + DELETED % stands('RoleBinding/a/gone', 'ClusterRole/ops', 'after.json') + SAME % OF_EVE)):
+        compared(it, '--partial: ' + name, before, after, [gained], '--partial', said=OWN + said + LEFT)
+        for what, status in (('changes', 1), ('gains', 1), ('powers', 0)) if name in ('the same', 'each kind') else ():
+            got = compared_all(it, before, after, '--partial', '--fail-on', what)
+            it.checked('--partial --fail-on %s: %s' % (what, name), got[:2] == (status, [gained]) and got[2].endswith(OWN + said + LEFT), got)
+    compared(it, '--partial: nothing changes', [EVE, OTHER], [OTHER, EVE], [], '--partial', said=SAME % OF_EVE + LEFT)
+    compared(it, '--partial, and nothing is left out', [OTHER], [wider], [gained], '--partial', said=OWN)
+
+
+@with_manifests
+def many_unknown(it):
+    """The first ten are named with their places, and the others counted; each where it stands."""
+    some = [bound('b%02d' % number, 'a', 'kim', 'ClusterRole', 'ops') for number in range(12)]
+    got = compared_all(it, [OTHER], [OTHER, *some])
+    named = [stands('RoleBinding/a/b%02d' % number, 'ClusterRole/ops', 'after.json') for number in range(10)]
+    it.checked('many', got[:2] == (2, []) and got[2].endswith(CHANGED % (', '.join(named) + ' and 2 more') + UNANSWERED), got)
+    got = without_cluster(it, 'diff', '--from', 'after.json', '--to', '-', stdin=None, input=json.dumps(some[3]).encode())
+    it.checked('on standard input', got[0] == 2 and SAME % 'RoleBinding/a/b03 to ClusterRole/ops in standard input' in got[2], got)
+    put(it, {'k/kustomization.yaml': json.dumps({'resources': ['b.json']}), 'k/b.json': some[0], 'm/in/b.json': some[0]})
+    for folder, file in (('k', 'k'), ('m', 'm/in/b.json')):
+        got = without_cluster(it, 'diff', '--from', 'before.json', '--to', folder)
+        place = stands('RoleBinding/a/b00', 'ClusterRole/ops', file) if folder == 'm' else 'RoleBinding/a/b00 to ClusterRole/ops in k'
+        it.checked('in the folder %s' % folder, got[0] == 2 and CHANGED % place in got[2], got)
+    if yaml:
+        put(it, {'m/in/b.json': OTHER, 'm/two.yaml': 'kind: RoleBinding\n'.join(('', BOUND % 'a: b', BOUND % 'b'))})
+        got = without_cluster(it, 'diff', '--from', 'before.json', '--to', 'm')
+        it.checked('lines of YAML', got[0] == 2 and CHANGED % ', '.join(stands('RoleBinding/a/' + name, 'ClusterRole/ops', 'm/two.yaml', number)
+                                                                     for name, number in (('a: b', 4), ('b', 11))) in got[2], got)
+
+
+# What stands below the kind of a binding, in YAML.
+BOUND = """apiVersion: rbac.authorization.k8s.io/v1
+metadata:
+  name: "%s"
+  namespace: a
+roleRef: {apiGroup: rbac.authorization.k8s.io, kind: ClusterRole, name: ops}
+---
+"""
+
+
+@with_manifests
+def bare(it):
+    """--no-defaults is for manifests alone."""
+    put(it, {'before.json': OTHER})
     for line in (['diff', '--no-defaults', '--with', 'before.json'], ['diff', '--no-defaults', '--export', 'x', '--from', 'a', '--to', 'b'], ['lint', '--no-defaults'],
                  ['lint', '--no-defaults', '--export', 'x']):
         status, out, err = got = without_cluster(it, *line)
@@ -238,4 +300,4 @@ def own_objects(it):
                and gathered('+', 'u:kim', 'edit', 'a', 'RoleBinding/a/kim') in lines_of(out), got)
 
 
-CHECKS = [silent, whoever, shapes, unknown, linted, own_objects]
+CHECKS = [silent, whoever, shapes, unknown, partial, many_unknown, bare, linted, own_objects]

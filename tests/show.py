@@ -26,15 +26,15 @@ import unicodedata
 from common import PROGRAM, TOP, checked, skipped, tested
 from shells import renders
 from show_lines import (ANSWER, ANSWER_HEADLESS, ANSWER_TABLE, COMMANDS, DIFF, DIFF_TABLE, FILES, HOLDERS, HOLDERS_TABLE, LINT, MATRIX, MATRIX_80,
-                        MATRIX_TABLE, OF_COUNTS, OF_ROW, OPS_WORDS, OPS_WORDS_44, PATHS, POWERS, ROWS, RULES, SHOP_WORDS, WAYS, WHY, WHY_TABLE, WORDS,
-                        tabs)
+                        MATRIX_TABLE, OF_COUNTS, OF_ROW, OPS_WORDS, OPS_WORDS_44, PATHS, POWERS, ROWS, RULES, SHOP_WORDS, UNUSED, WAYS, WHY, WHY_TABLE,
+                        WORDS, tabs)
 from written import contents, same
 from written import steps as steps_of_behaviour
 
 SHOW = os.path.join(TOP, 'plugin', 'rbacaudit-show')
 EXAMPLES = os.path.join(TOP, 'examples')
 MEMORY = 60_000  # kilobytes that a million lines may take
-EXPECTED = ('no command of rbacaudit prints this: expected lines of can-i, who-can, rules, matrix, lint, powers, paths or diff; '
+EXPECTED = ('no command of rbacaudit prints this: expected lines of can-i, who-can, rules, matrix, lint, powers, paths, diff or unused; '
             'rbacaudit-show --help lists their fields')
 
 
@@ -112,7 +112,8 @@ def commands(it):
 
 # Commands whose rows have colors: the codes of each row.
 COLORS = {'can-i --why': ['', ''], 'who-can': ['', ''], 'rules': ['', ''], 'lint': [''] * 5, 'powers': [''] * 3, 'paths': [''] * 5, 'who-can --indirect': [''] * 7,
-          'diff': ['1;32', '1;31', '31'], 'matrix': ['', '', '1', ''], 'diff --summary': ['1;32', '31', '1', '1']}
+          'diff': ['1;32', '1;31', '31'], 'matrix': ['', '', '1', ''], 'diff --summary': ['1;32', '31', '1', '1'],
+          'unused': ['', '', '', '', '1', '']}
 
 
 def colored(table, codes):
@@ -155,6 +156,14 @@ def colors(it):
             ('RoleBinding/a/b', 'get', '-', '*/exec', '', 1), ('RoleBinding/a/b', 'get', '-', '*/proxy', '', 0), ('ClusterRoleBinding/b', 'get', '-', '*/proxy', '', 1),
             ('ClusterRoleBinding/b', 'get', '-', 'pods/*', '', 0), ('RoleBinding/a/b', 'get', '-', 'a\\x2csecrets', '', 0)):
         it.same('a power in rules: %s %s' % (binding, words), it.run(rule % (binding, *words), '--color=always')[1].count(b'\x1b[1m'), code)
+    for binding, words, code in (
+            ('RoleBinding/a/b', 'get - secrets *', 1), ('RoleBinding/a/b', 'get - secrets x', 1), ('RoleBinding/a/b', 'create - pods *', 1), ('RoleBinding/a/b', 'create - pods x', 0),
+            ('RoleBinding/a/b', '* * * *', 1), ('RoleBinding/a/b', 'get - nodes/proxy *', 0), ('ClusterRoleBinding/b', 'get - nodes/proxy *', 1),
+            ('RoleBinding/kube-system/b', 'create - secrets *', 1), ('RoleBinding/a/b', 'create - secrets *', 0), ('ClusterRoleBinding/b', 'get - /secrets -', 0),
+            ('ClusterRoleBinding/b', 'get - * -', 0), ('ClusterRoleBinding/b', '* - ** -', 0), ('ClusterRoleBinding/b', 'get - * *', 1),
+            ('RoleBinding/a/b', 'create - pods -', 1), ('ClusterRoleBinding/b', 'impersonate - users kim', 1), ('RoleBinding/a/b', 'impersonate - users *', 0), ('ClusterRoleBinding/b', 'create - pods \\x2a', 0)):
+        line = tabs('permission %s ClusterRole/r ClusterRole/r 1 - %s' % (binding, words))
+        it.same('a power in unused: %s %s' % (binding, words), it.run(line, '--color=always')[1].count(b'\x1b[1m'), code)
 
 
 def headless(it):
@@ -389,6 +398,19 @@ POWERS_ALONE = ('volumes', 'namespaces')
 OF_BOTH = ['1 u:kim - g:ops - impersonate ' + GRANT, '1 %s - %s - secrets %s' % (CI, BOT, GRANT)]
 
 
+def no_parts():
+    """Lines that look like one of unused, and are none."""
+    whole, subject, rule, permission = (line for line in UNUSED.splitlines() if '\t/metrics' not in line and 'deployments' not in line)
+    for name, line, old, new in (
+            ('another part', whole, 'binding', 'role'), ('a head', whole, 'binding', 'LINE'), ('a binding with a rule', whole, '\t-\t-', '\tClusterRole/m\t1'),
+            ('a binding with a name', whole + '*', '-*', '*'), ('a binding with a verb', whole, '-\t-\t-\t-\t-', '-\t-\t-\t-\tget'),
+            ('a subject of no place', subject, '12', '-'), ('a subject that is nobody', subject, 'u:', ''), ('a subject without a name', subject, 'u:system:serviceaccount:shop:ci', '-'),
+            ('a subject with a rule', subject, '-\t-\t12', 'Role/shop/ci\t1\t12'), ('a rule of no place', rule, '10', '-'), ('a rule of no role', rule, 'Role/shop/ci\t10', '-\t10'),
+            ('a rule with a subject', rule, '10\t-', '10\t1'), ('a rule with a verb', rule, '10\t-\t-', '10\t-\tget'), ('a permission of no rule', permission, '2', '-'),
+            ('a permission with a subject', permission, '2\t-', '2\t1'), ('a permission of no binding', permission, 'ClusterRoleBinding', 'ClusterRole')):
+        yield name, line.replace(old, new, 1)
+
+
 def no_ways():
     """Lines that look like one of who-can --indirect, and are none."""
     by_itself, taker = '0 u:kim - - - - ' + GRANT, '1 u:kim - * dev bind ' + GRANT
@@ -448,7 +470,7 @@ def refusals(it):
                        ('a path to a Role without a namespace', PATHS.splitlines()[1].replace('ClusterRole/edit', 'Role/edit')),
                        ('a path by more than no role', PATHS.splitlines()[2].replace('-\t-\t-', '-\t-x\t-', 1)),
                        ('a path by a binding without a name', PATHS.splitlines()[1].replace('Binding/devs', 'Binding/')), ('a path by half a rule', PATHS.splitlines()[0][:-1] + '--'),
-                       *no_ways(), ('no token', 'next\ta b'), ('next without a token', 'next')):
+                       *no_ways(), *no_parts(), ('no token', 'next\ta b'), ('next without a token', 'next')):
         for words in ([], ['-o', 'json'], ['-o', 'name']):
             it.same('refused %s: %s' % (words, name), it.run(line + '\n', *words), (2, b'', 'rbacaudit-show: standard input line 1: %s\n' % EXPECTED))
     it.same('refused: a NUL', it.run('u:k\0\tRoleBinding/a/b\x01\n')[::2], (2, 'rbacaudit-show: standard input line 1: %s\n' % EXPECTED))
@@ -464,6 +486,8 @@ def refusals(it):
              'no line of paths as before: expected 11 fields: STEPS TO WHERE FROM WHERE STEP BINDING ROLE SOURCE RULE SUBJECT'),
             ('a path among rules', RULES, PATHS, 'no line of rules as before: expected 10 fields: BINDING ROLE SOURCE RULE SUBJECT VERBS GROUPS RESOURCES NAMES URLS'),
             ('a file among findings', LINT, FILES, 'no line of lint as before: expected 5 fields: CODE NAME OBJECT PLACE DETAIL'),
+            ('a rule among unused ones', UNUSED, RULES,
+             'no line of unused as before: expected 10 fields: LINE BINDING ROLE SOURCE RULE SUBJECT WHO/VERB GROUP RESOURCE NAME'),
             ('a finding after yes', 'yes\n', LINT, 'no line of can-i as before: expected yes, no, or 5 fields: BINDING ROLE SOURCE RULE SUBJECT')):
         status, out, err = it.run(before + line, '-o', 'json')
         at = before.count('\n') + 1

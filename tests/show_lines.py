@@ -212,6 +212,32 @@ SUMMARY_80 = SUMMARY_TABLE.replace('BINDING       ', 'BINDING ').replace('RoleBi
 SUMMARY_80 = SUMMARY_80.replace('-          -                      ', '-          -                ').replace('…    2', '…  2')
 
 
+UNUSED = tabs(r'''
+binding ClusterRoleBinding/m ClusterRole/m - - - - - - -
+subject RoleBinding/shop/ci Role/shop/ci - - 12 u:system:serviceaccount:shop:ci - - -
+rule RoleBinding/shop/ci Role/shop/ci Role/shop/ci 10 - - - - -
+permission ClusterRoleBinding/ops ClusterRole/ops ClusterRole/part 1 - get - /metrics -
+permission ClusterRoleBinding/ops ClusterRole/ops ClusterRole/part 2 - list - secrets *
+permission ClusterRoleBinding/ops ClusterRole/ops ClusterRole/part 3 - \x2a apps deployments/scale \x2a''')
+UNUSED_TABLE = r'''LINE        BINDING                 ROLE             SOURCE            RULE  SUBJECT  WHO/VERB                         GROUP  RESOURCE           NAME
+binding     ClusterRoleBinding/m    ClusterRole/m    -                 -     -        -                                -      -                  -
+subject     RoleBinding/shop/ci     Role/shop/ci     -                 -     12       u:system:serviceaccount:shop:ci  -      -                  -
+rule        RoleBinding/shop/ci     Role/shop/ci     Role/shop/ci      10    -        -                                -      -                  -
+permission  ClusterRoleBinding/ops  ClusterRole/ops  ClusterRole/part  1     -        get                              -      /metrics           -
+permission  ClusterRoleBinding/ops  ClusterRole/ops  ClusterRole/part  2     -        list                             -      secrets            *
+permission  ClusterRoleBinding/ops  ClusterRole/ops  ClusterRole/part  3     -        \x2a                             apps   deployments/scale  \x2a
+'''
+# (149 columns, of which blanks take 18: 131 become 62. All that have more than 7 have 7)
+UNUSED_80 = r'''LINE     BINDING  ROLE     SOURCE   RULE  SUBJECT  WHO/VE…  GROUP  RESOUR…  NAME
+binding  Cluste…  Cluste…  -        -     -        -        -      -        -
+subject  RoleBi…  Role/s…  -        -     12       u:syst…  -      -        -
+rule     RoleBi…  Role/s…  Role/s…  10    -        -        -      -        -
+permis…  Cluste…  Cluste…  Cluste…  1     -        get      -      /metri…  -
+permis…  Cluste…  Cluste…  Cluste…  2     -        list     -      secrets  *
+permis…  Cluste…  Cluste…  Cluste…  3     -        \x2a     apps   deploy…  \x2a
+'''
+
+
 def objects(keys, *values):
     return [dict(zip(keys.split(), line)) for line in values]
 
@@ -220,6 +246,7 @@ OF_WHY = 'binding role source rule subject'
 OF_ROW = 'who namespace verb group resource name binding'
 OF_COUNTS = 'gained lost powers_gained powers_lost'
 OF_FINDING = 'code name object place detail'
+OF_PART = 'line binding role source rule subject %s group resource name'
 COMMANDS = {
     'can-i --why': (ANSWER, ANSWER_TABLE, ANSWER_80, [{'allowed': True}, *objects(
         OF_WHY, ('RoleBinding/shop/readers', 'ClusterRole/shop-view', 'ClusterRole/shop-pods', 1, 12))],
@@ -281,4 +308,13 @@ COMMANDS = {
         'who namespace binding ' + OF_COUNTS, ('g:devs', 'shop', 'RoleBinding/shop/devs', 2, 0, ['secrets'], []),
         ('u:bob', '', 'ClusterRoleBinding/bobs', 0, 1, [], []), ('u:-a', None, 'ClusterRoleBinding/bobs', 7, 12, ['exec'], ['run', 'exec'])),
         *objects('total ' + OF_COUNTS, (True, 9, 13, ['secrets', 'exec'], ['run', 'exec']))], ['g:devs', 'u:bob', 'u:\\x2da']),
+    # (the key of the seventh field depends on the line)
+    'unused': (UNUSED, UNUSED_TABLE, UNUSED_80, [
+        *objects(OF_PART % 'verb', ('binding', 'ClusterRoleBinding/m', 'ClusterRole/m', '', None, None, '', '', '', '')),
+        *objects(OF_PART % 'who', ('subject', 'RoleBinding/shop/ci', 'Role/shop/ci', '', None, 12, 'u:system:serviceaccount:shop:ci', '', '', '')),
+        *objects(OF_PART % 'verb', ('rule', 'RoleBinding/shop/ci', 'Role/shop/ci', 'Role/shop/ci', 10, None, '', '', '', ''),
+                 ('permission', 'ClusterRoleBinding/ops', 'ClusterRole/ops', 'ClusterRole/part', 1, None, 'get', '', '/metrics', ''),
+                 ('permission', 'ClusterRoleBinding/ops', 'ClusterRole/ops', 'ClusterRole/part', 2, None, 'list', '', 'secrets', None),
+                 ('permission', 'ClusterRoleBinding/ops', 'ClusterRole/ops', 'ClusterRole/part', 3, None, '*', 'apps', 'deployments/scale', '*'))],
+               ['ClusterRoleBinding/m', 'RoleBinding/shop/ci', 'ClusterRoleBinding/ops']),
 }

@@ -14,11 +14,11 @@ from __future__ import annotations
 import json
 import os
 from collections.abc import Iterable, Iterator
-from typing import Any, List
+from typing import Any, List, Tuple
 
 from .answer import Asking, ask, ask_well, show_text
 from .changes import show_rows, take_side
-from .documents import first_three, list_in, read_text, text_in
+from .documents import first_of, list_in, read_text, text_in
 from .escapes import bytes_of
 from .fields import ELSEWHERE, WHAT, in_key, rows_of
 from .kubectl import RBAC
@@ -30,6 +30,11 @@ from .terminal import Refused
 
 OWN = os.path.join(os.path.dirname(os.path.abspath(__file__)), 'defaults.json')
 Row = List[str]
+# What is said of bindings whose roles nobody knows: those that the change touches, those to a role that it deletes, and those that it doesn't touch.
+UNKNOWN = ('nobody knows the roles of these bindings, which come, go or change: ',
+           'nobody knows whether the cluster keeps the roles of these bindings, which the change deletes: ',
+           "nobody knows the roles of these bindings, which are the same on both sides, so the change doesn't touch them: ")
+MOST_NAMED = 10
 
 
 def own_beside(asking: Asking) -> list[Item]:
@@ -104,25 +109,32 @@ def compare_states(asking: Asking) -> int:
 
 
 def look_for_unknown(asking: Asking, before: State, after: State) -> None:
-    """Refuses bindings to roles that nobody knows, since nobody knows what they grant. One that is the same on both sides changes nothing."""
-    changed, same = dict[str, str](), set[str]()
+    """Refuses bindings to roles that nobody knows, since nobody knows what they grant: also those that are the same on both sides."""
+    changed, deleted, same = dict[str, Place](), dict[str, Place](), dict[str, Place]()
     for state in (before, after):
         for key, binding in state.of(BINDINGS).items():
-            is_same, is_known = grant_of(before, key) == grant_of(after, key), role_of(binding) in after.objects
+            role, is_same = role_of(binding), grant_of(before, key) == grant_of(after, key)
             # (what the change deletes may stay in the cluster, and then somebody new may have it)
-            if is_same and not is_known and role_of(binding) not in before.objects:
-                same.add(key)
-            elif not is_same and not is_known and (state is after or role_of(binding) not in before.objects):
-                changed[key] = role_of(binding)
-    if same:
-        asking.session.report('nobody knows the roles of these bindings, which are the same on both sides, so they change nothing: %s'
-                              % first_three(same))
-    listed = ', '.join('%s to %s' % pair for pair in sorted(changed.items()))
-    if changed and not asking.options.partial:
-        raise Refused('nobody knows the roles of these bindings, so nothing is answered: %s; give a file with the role on both sides, or '
-                      '--export DIR, an export of a cluster that has it; --partial leaves these bindings out' % listed)
-    if changed:
-        asking.session.report('these bindings are left out, because nobody knows their roles: %s' % listed)
+            is_deleted = role in before.objects and state is after and not is_same
+            if role not in after.objects and (is_deleted or role not in before.objects):
+                bindings = deleted if is_deleted else same if is_same else changed
+                bindings['%s to %s' % (key, role)] = state, key
+    found = [said + named(bindings) for said, bindings in zip(UNKNOWN, (changed, deleted, same)) if bindings]
+    for text in found:
+        asking.session.report(text)
+    if found and not asking.options.partial:
+        raise Refused('nothing is answered, because these bindings may grant anything: give a file with each role on both sides, or --export DIR, '
+                      'an export of a cluster that has it; --partial leaves these bindings out')
+    if found:
+        asking.session.report('these bindings are left out: the answer has only what the others grant')
+
+
+def named(bindings: dict[str, Place]) -> str:
+    """The first of some bindings, each with where it stands, and how many more there are."""
+    read: dict[str, dict[str, int]] = {}
+    ordered = sorted(bindings, key=bytes_of)
+    first = ['%s in %s' % (name, state.place_of(key, read)) for name in ordered[:MOST_NAMED] for state, key in [bindings[name]]]
+    return first_of([*first, *ordered[MOST_NAMED:]], MOST_NAMED)
 
 
 def look_for_stale(asking: Asking, before: State, after: State, *files: list[str]) -> None:
@@ -163,9 +175,20 @@ class State:
         self.manifests, self.own = manifests, without(own, manifests)
         # (of several with one name the last counts)
         self.objects = {key_of_item(item): item for item in [*self.own, *manifests.items] if is_of_rbac(item)}
+        self.origins = {key_of_item(item): origin for item, origin in zip(manifests.items, manifests.origins) if is_of_rbac(item)}
 
     def of(self, kinds: tuple[str, ...]) -> dict[str, Item]:
         return {key: item for key, item in self.objects.items() if item['kind'] in kinds}
+
+    def place_of(self, key: str, read: dict[str, dict[str, int]]) -> str:
+        """Where an object of the manifests stands: its file and, if that can be told, the line of its name. What was read of files is kept."""
+        from .sarif import known_line
+        origin = self.origins[key]
+        line = known_line(read, origin, key) if os.path.isfile(origin) else 0
+        return '%s line %d' % (origin, line) if line else origin
+
+
+Place = Tuple[State, str]   # a state, and the key of an object in it
 
 
 def home_of(item: Item) -> str:

@@ -17,12 +17,14 @@ from .terminal import Ended, Refused, print_text
 
 # The module of each command, which nothing else waits for; the others are questions.
 MODULES = {'export': 'export', 'diff': 'changes', 'read': 'manifests', 'universe': 'listed', 'page': 'page_command', 'access': 'access',
-           'report': 'report'}
+           'report': 'report', 'unused': 'unused'}
 
 
 def run_words(session: Session, words: list[str]) -> int:
     """Runs a command, or what stands in its place; the status."""
     first = words[0] if words else ''
+    if first == 'help' and len(words) < 3:
+        return run_words(session, [*words[1:], '--help'])
     if first in MODULES:
         return int(getattr(import_module('.' + MODULES[first], __package__), first + '_command')(session, words[1:]))
     if first in COMMANDS:

@@ -12,7 +12,7 @@ from .options import COMMANDS, VALUES, Option, formats_of, tokens_of
 FILES, NOTHING, FOLDERS = ':0', ':4', ':16'
 VERBS = ('get', 'list', 'watch', 'create', 'update', 'patch', 'delete', 'deletecollection', 'use', 'bind', 'escalate', 'impersonate')
 PLACES = {'VERB': (*VERBS, NOTHING), 'FILE': (FILES,), 'DIR': (FOLDERS,)}
-OF_FILES = ('--kubeconfig', '--diff', '--with', '--without', '--from', '--to')
+OF_FILES = ('--kubeconfig', '--diff', '--with', '--without', '--from', '--to', '--log')
 
 
 def offers(command: str, before: list[str], typed: str) -> Iterator[str]:
@@ -62,7 +62,7 @@ def main(words: list[str]) -> int:
     """Prints the words that begin with what is typed. After a tab comes what a word means."""
     *before, typed = words or ['']
     found = ['-h', '--help', '-V', '--version'] if typed.startswith('-') else ['%s\t%s' % (name, it.text) for name, it in COMMANDS.items()]
-    if before:
+    if before and before != ['help']:
         found = [*offers(before[0], before[1:], typed)] if before[0] in COMMANDS else []
         typed = typed.partition('=')[2] if typed.startswith('--') and '=' in typed and '--' not in before else typed
     last = found.pop() if found and found[-1].startswith(':') else NOTHING

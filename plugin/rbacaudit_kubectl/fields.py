@@ -113,13 +113,17 @@ def _place(namespace: str, of_cluster: str) -> str:
 
 
 def powers_of(command: str, cells: Sequence[str]) -> tuple[str, ...]:
-    """The powers of a line of diff, of its summary, of matrix or of rules; lines of other commands tell none."""
+    """The powers of a line of diff, of its summary, of matrix, of rules or of unused; lines of other commands tell none."""
     if command == 'diff' and cells[2] != '-':  # (a URL has no namespace)
         return steps_of((cells[3],), (cells[4],), (cells[5],), cells[6] not in ('*', '-'), _place(cells[2], '*'))
     if command == 'diff --summary':
         return tuple(words_of(cells[5]) + words_of(cells[6]))
     if command == 'matrix' and not cells[4].startswith('/'):
         return steps_of((cells[2],), (cells[3],), (cells[4],), cells[5] != '-', _place(cells[1], '-'))
+    if command == 'unused' and cells[0] == 'permission':
+        # (a URL may be nothing but stars)
+        is_url = cells[8].startswith('/') or not cells[8].strip('*') and cells[7] == cells[9] == '-'
+        return () if is_url else steps_of((cells[6],), (cells[7],), (cells[8],), cells[9] not in ('*', '-'), _place(place_of(cells[1]), ''))
     if command == 'rules':
         verbs, groups, resources, names = (tuple(words_of(cell)) for cell in cells[5:9])
         kind, _, key = cells[0].partition('/')
@@ -151,12 +155,15 @@ NUMBER = '[1-9][0-9]{0,17}'
 STEP = '(?:%s)' % '|'.join(STEP_NAMES)
 # What a near grant lacks, and whether it has a list of the rule in its place.
 LACKS = {'namespace': False, 'verb': True, 'group': True, 'subresource': True, 'name': True, 'member': False}
+# What may be unused, and which of the last seven fields its line has: the others are empty, and those of words may be.
+PARTS = {'binding': '.......', 'subject': '..xx...', 'rule': 'xx.....', 'permission': 'xx. '}
 # What a field of each kind looks like. Fields of `any` may be *, which is no name then.
 KINDS = {
     'text': FIELD, 'any': FIELD, 'detail': FIELD, 'who': PRINCIPAL, 'holder': '(?:%s|r:%s)' % (PRINCIPAL, ROLE),
     'whose': '(?:%s|r:%s|total)' % (PRINCIPAL, ROLE), 'binding': BINDING, 'role': ROLE,
     'node': r'(?:%s|\*|%s)' % (PRINCIPAL, ROLE), 'next': r'(?:%s|[-*]|%s)' % (PRINCIPAL, ROLE), 'bound': '(?:-|%s)' % BINDING, 'held': '(?:-|%s)' % ROLE,
     'number': NUMBER, 'count': '(?:0|%s)' % NUMBER, 'place': '(?:-|%s)' % NUMBER, 'list': r'\[(?:%s(?:,%s)*)?\]' % (_WORD, _WORD),
+    'part': '(?:%s)' % '|'.join(PARTS), 'acted': FIELD,
     'code': 'L[1-9][0-9]*', 'sign': '[-+]', 'step': STEP, 'by': '(?:-|%s)' % STEP, 'what': '(?:%s)' % '|'.join(LACKS), 'has': FIELD}
 
 
@@ -179,6 +186,9 @@ class Shape:
             # (whoever has a role has it by a binding elsewhere, and a total has none)
             needs_none = cells[self.about] == 'total' or cells[self.about].startswith('r:')
             return cells if (cells[DIFFS[self.command]] == '-') == needs_none else []
+        if self.command == 'unused' and cells:
+            is_whole = all((cell == '-') == (sign == '.') for cell, sign in zip(cells[3:], PARTS[cells[0]]) if sign != ' ')
+            return cells if is_whole and (cells[0] != 'subject' or cells[6].startswith(('u:', 'g:'))) else []
         return [] if len(cells) == 11 and not tells_step(cells, self.command == 'paths') else cells
 
 
@@ -205,7 +215,8 @@ SHAPES = (
     _shape('paths', 1, 'STEPS:number TO:node:who WHERE:any FROM:node WHERE:any:from_where STEP:step ' + _HELD),
     _shape('who-can --indirect', 1, 'STEPS:count WHO:node WHERE:any TO:next WHERE:any:to_where STEP:by ' + _HELD),
     _shape('diff', 1, 'CHANGE:sign ' + _ROW % ('holder', ':any', ':any', 'bound')),
-    _shape('diff --summary', 0, 'WHO:whose NAMESPACE:any BINDING:bound GAINED:count LOST:count POWERS_GAINED:list POWERS_LOST:list'))
+    _shape('diff --summary', 0, 'WHO:whose NAMESPACE:any BINDING:bound GAINED:count LOST:count POWERS_GAINED:list POWERS_LOST:list'),
+    _shape('unused', 1, 'LINE:part BINDING:binding ROLE:role SOURCE:held RULE:place SUBJECT:place WHO/VERB:acted GROUP RESOURCE NAME:any'))
 # A row has its shape and its fields. What is no row, such as the last line of a matrix, has this shape and itself.
 Row = tuple[Shape, list[str]]
 REMARK = Shape('', 0, ())

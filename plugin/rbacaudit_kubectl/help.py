@@ -7,14 +7,14 @@ from collections.abc import Iterator
 from itertools import groupby
 
 from .fields import SHAPES
-from .options import COMMANDS, OF_DIFF, OF_EXPORT, OF_PAGE, OF_READ, OF_REPORT, OWN, SHOWN, Option
+from .options import COMMANDS, OF_DIFF, OF_EXPORT, OF_PAGE, OF_READ, OF_REPORT, OF_UNUSED, OWN, SHOWN, Option
 
 MAIN = '''\
 Answer questions about the RBAC of a cluster with rbacaudit. kubectl reads the cluster, and nothing in it is changed.
 
 {commands}
 
-can-i, who-can, rules, access, matrix, powers, paths and lint take rbacaudit's options (see can-i --help), and these:
+The commands up to lint, and unused, take rbacaudit's options (see can-i --help), and these:
 {options}
 
 Without --export, each question reads the cluster anew. For several questions, and for pages of a matrix, export first:
@@ -27,9 +27,8 @@ with; rules and access list all bindings. The plugin says where -n doesn't count
 a server does.
 
 FILEs are read before the files of the export: if both have an object, the export's counts. The exit status is rbacaudit's: 2 is an error. If a part
-that the command reads is missing, nothing is answered and the status is 2, unless --partial is given. Standard error lists each type, subresource,
-verb, namespace, user and group of the question that the export doesn't have, and warns of a subresource after a slash: pods/exec means a pod named
-exec.
+that the command reads is missing, the status is 2, unless --partial is given. Standard error lists which type, verb, namespace, user or group isn't
+in the export; pods/exec means a pod named exec.
 
 Needs: Python 3.9, rbacaudit on the PATH or beside this plugin and, but for exports, kubectl. --version prints versions.
 '''
@@ -83,8 +82,8 @@ cluster (kubectl rbacaudit read --help). Standard error says how many roles and 
 still count.
 
 With --from and --to alone, the roles and bindings that Kubernetes itself makes count on both sides. r:ROLE in the place of WHO is whoever has this
-role elsewhere in the cluster, and "what ROLE gathers elsewhere" is what an aggregated role selects there. If nobody knows the role of a binding that
-changes, nothing is answered; --partial leaves such bindings out.
+role elsewhere in the cluster, and "what ROLE gathers elsewhere" is what an aggregated role selects there. If neither state nor Kubernetes has the
+role of a binding, nothing is answered; --partial leaves such bindings out, and standard error says which.
 
 A line begins with + for a permission that is gained, or with - for one that is lost; rbacaudit diff --help lists the fields. All requests of all
 users are compared, whether an export names them or not. The other options (--partial, -o, ..) mean what kubectl rbacaudit --help says. Exit status: 0
@@ -144,6 +143,32 @@ verb, type or API group is any, and what it allows isn't repeated elsewhere. URL
 (kubectl rbacaudit powers --help), and types that are limited to names are yellow. Standard error names cluster-scoped types that RoleBindings name,
 if the export has API resource lists. The other options mean what kubectl rbacaudit --help says. Exit status: 0 the table is written; 2 an error.
 '''
+UNUSED = '''\
+List what of the bindings no request of an audit log used, and so may be taken away: status 1 if any.
+
+  kubectl rbacaudit unused --log LOG [--log LOG].. [--skip-system] [FILE]..
+
+{options}
+  --skip-system  leave out the bindings whose names begin with system:
+  -o FORMAT      table (on a terminal), wide, json, name (the bindings), or tsv (elsewhere): the lines of
+                 rbacaudit. Above a table is how much isn't used
+
+  binding        nobody used anything that the binding grants
+  subject        the binding is used, but not by anybody whom this subject names
+  rule           nobody used any permission of this rule through the binding
+  permission     nobody used these words of the rule: a verb, and an API group, a resource and an object name
+                 (* for any), or a URL
+
+Each unused permission is in one line, by the first of these words that is true. A log has lines of JSON, as the API server writes them with
+--audit-log-path: events of audit.k8s.io/v1. Give the logs of all API servers, in any order; packed ones (.gz) count as they are. They tell only what
+was asked while they were written, and what the server's audit policy logs. So what is needed once a year may look unused. As in:
+  kubectl rbacaudit unused --export prod --skip-system --log audit.log --log audit-2026-11-30.log.gz
+  ssh master cat /var/log/kubernetes/audit.log | kubectl rbacaudit unused --export prod --log -
+
+A line of a log that is no event refuses the answer, and standard error has its place; a log that a server is writing may end in half a line. The
+other options mean what kubectl rbacaudit --help says, and rbacaudit unused --help lists the fields. Exit status: 0 all is used; 1 something isn't; 2
+an error.
+'''
 REPORT = '''\
 Write one document about the export, for an auditor.
 
@@ -194,10 +219,11 @@ pipefail bash keeps it.
 # The lines of each command: which of SHAPES, and what is said around the fields.
 LINES = (('can-i', 0, 'yes or no; %s'), ('can-i --why-not', 1, '%s'), ('who-can', 2, '%s'), ('who-can --why', 3, '%s'), ('who-can --indirect', 10, '%s'),
          ('rules', 4, '%s'), ('matrix', 5, '%s; end, or next and a token'), ('lint', 6, '%s, and FILE from the plugin'), ('powers', 8, '%s'),
-         ('paths', 9, '%s'), ('diff', 11, '%s'), ('diff --summary', 12, 'of the plugin: %s, and at last total in the place of WHO'))
+         ('paths', 9, '%s'), ('diff', 11, '%s'), ('diff --summary', 12, 'of the plugin: %s, and at last total in the place of WHO'),
+         ('unused', 13, '%s'))
 # The text of a command, its options, and the column of what they do.
 TEXTS = {'': (MAIN, OWN + SHOWN, 21), 'export': (EXPORT, OF_EXPORT, 20), 'diff': (DIFF, OF_DIFF, 19), 'read': (READ, OF_READ, 11),
-         'access': (ACCESS, (), 0), 'report': (REPORT, OF_REPORT, 20), 'page': (PAGE, OF_PAGE, 17)}
+         'access': (ACCESS, (), 0), 'unused': (UNUSED, OF_UNUSED, 17), 'report': (REPORT, OF_REPORT, 20), 'page': (PAGE, OF_PAGE, 17)}
 
 
 def described(options: tuple[Option, ...], column: int) -> Iterator[str]:

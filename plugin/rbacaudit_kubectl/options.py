@@ -31,7 +31,7 @@ AS_KUBECTL = 'as in kubectl'
 TARGETS = (Option('--context', 'NAME', 'context', AS_KUBECTL), Option('--kubeconfig', 'FILE', 'kubeconfig', AS_KUBECTL),
            Option('--request-timeout', 'TIME', 'timeout', AS_KUBECTL))
 OWN = (Option('--export', 'DIR', 'exports', 'answer from the export in DIR, without a cluster', True),
-       Option('--partial', '', 'partial', 'answer although a part of the export is missing'), *TARGETS)
+       Option('--partial', '', 'partial', 'answer although a part of the export is missing, or the roles of some bindings of manifests'), *TARGETS)
 SHOWN = (Option('-o,--output', 'FORMAT', 'format', 'table (on a terminal), wide, json, name, tsv: lines (elsewhere); lint, diff: sarif; paths: dot'),
          Option('--no-headers', '', 'headless', 'a table without its head'),
          Option('--color', 'WHEN', 'color', 'with colors: auto, always or never (rbacaudit-show --help)'))
@@ -46,6 +46,8 @@ OF_DIFF = (
            'among them, which are ways to take over somebody else, and a total'),
     Option('--fail-on', 'WHAT', 'fail_on', 'end with status 1 for changes (default), only for gains, or only for powers that are gained'),
     Option('--kustomize', '', 'kustomize', 'with --fail-on: a folder with a kustomization is meant to be rendered'), BARE)
+OF_UNUSED = (Option('--log', 'LOG', 'logs', 'an audit log of the API server: a file, which may be one of gzip, or - for standard input; it may '
+                    'be given more than once', True),)
 OF_READ = (Option('-n,--namespace', 'NS', 'namespace', 'put the roles and bindings that have no namespace into NS'),)
 OF_PAGE = (
     Option('-n,--namespace', 'NS', 'namespace', 'the page of one namespace: its rows, and those of the whole cluster'),
@@ -64,7 +66,8 @@ PASSED = {option.long: option for option in (
     Option('-A,--all-namespaces', '', 'everywhere'), Option('--in-namespace', '', 'in_namespace'), Option('--subresource', 'S', 'subresource'),
     Option('-q,--quiet', '', 'quiet'), Option('--why', '', 'why'), Option('--why-not', '', 'why_not'), Option('--anywhere', '', 'anywhere'),
     Option('--any-name'), Option('--every'), Option('--indirect', '', 'indirect'), Option('--steps', 'STEPS'), Option('--to', 'TO'),
-    Option('--once', '', 'once'), Option('--after', 'TOKEN'), Option('--limit', 'N'), Option('--only', 'CODES', 'codes'), Option('--skip-system'))}
+    Option('--once', '', 'once'), Option('--after', 'TOKEN'), Option('--limit', 'N'), Option('--only', 'CODES', 'codes'),
+    Option('--skip-system', '', 'skips_system'))}
 SCOPE = '--namespace --all-namespaces --in-namespace --subresource '
 
 
@@ -96,6 +99,8 @@ COMMANDS: dict[str, Command] = {
                      '--groups --group --steps --to --namespace'),
     'lint': Command('[PATH]..', 'what looks wrong with roles and bindings: status 1 if any', 'FILE', '--only --skip-system',
                     OWN + SHOWN + (BARE,)),
+    'unused': Command('--log LOG [FILE]..', 'which bindings and permissions nobody used, by an audit log', 'FILE', '--skip-system',
+                      OF_UNUSED + OWN + SHOWN),
     'diff': Command('--export OLD --export NEW', 'permissions gained and lost: status 1 if any (diff --help)', own=OF_DIFF + OWN + SHOWN),
     'read': Command('PATH..', 'manifests as JSON, for rbacaudit (read --help)', 'FILE', own=OF_READ),
     'universe': Command('', 'a Universe document to start from, for matrix', own=OWN),
@@ -113,7 +118,8 @@ class Options:
     """What the plugin's own options say, by the fields of the table; `paths` are the other words."""
 
     def __init__(self, command: str = '') -> None:
-        self.command, self.paths, self.exports, self.as_groups = command, list[str](), list[str](), list[str]()
+        self.command, self.paths = command, list[str]()
+        self.exports, self.as_groups, self.logs = list[str](), list[str](), list[str]()
         self.context = self.kubeconfig = self.timeout = self.namespace = self.as_user = self.title = self.diff = self.output = ''
         self.format = self.color = self.fail_on = self.with_ = self.without = self.before = self.after = ''
         self.partial = self.force = self.every = self.headless = self.summary = self.bare = self.kustomize = self.help = False
@@ -137,13 +143,13 @@ class Options:
             self.awaits = told if option.value else ''
             setattr(self, option.field, given if option.value else True)
             return
-        if len(token.words) > 1 and value.startswith('-') and not (value == '-' and told in PATHS):
+        if len(token.words) > 1 and value.startswith('-') and not (value == '-' and told in (*PATHS, '--log')):
             raise Refused('%s needs a value; if %s is the value, write %s=%s' % (told, value, told, value))
         if not value:
             raise Refused('%s needs a value' % told)
         if takes_two and len(given) == 2:
             raise Refused('diff takes two exports, and --export is given three times')
-        if given and not takes_two and told not in ('--color', '--as-group'):
+        if given and not takes_two and told not in ('--color', '--as-group', '--log'):
             raise Refused('%s is given twice' % told)
         if told == '--color' and value not in VALUES[told]:
             raise Refused('there is no color %s: --color takes auto, always or never' % value)

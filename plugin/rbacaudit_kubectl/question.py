@@ -9,7 +9,8 @@ from .processes import NOTHING, Session
 from .terminal import Ended, Refused, print_text
 
 ROLES = ['cluster.json', 'namespaced.json']
-PARTS = {'rules': ROLES, 'powers': ROLES, 'lint': ROLES, 'diff': ROLES, 'paths': [*ROLES, 'accounts.json'], 'report': [*ROLES, 'accounts.json'],
+PARTS = {'rules': ROLES, 'powers': ROLES, 'lint': ROLES, 'diff': ROLES, 'unused': ROLES,
+         'paths': [*ROLES, 'accounts.json'], 'report': [*ROLES, 'accounts.json'],
          'matrix': [*ROLES, 'namespaces.json', 'accounts.json', 'api']}
 ACCOUNT = 'system:serviceaccount:'
 
@@ -22,7 +23,7 @@ class Question:
         self.words, self.places, self.groups = list[str](), list[str](), list[str]()    # without files; VERB and TARGET, or WHO
         self.verb = self.type = self.object = self.subresource = self.codes = self.asker = self.namespace = ''
         self.everywhere = self.anywhere = self.in_namespace = self.indirect = self.once = self.has_namespace = False
-        self.quiet = self.why = self.why_not = False
+        self.quiet = self.why = self.why_not = self.skips_system = False
         self.dashed = ''            # the last value that begins with a dash and its option, as they have to be written
         self.asked_in = asked_in    # the namespace that it is about, or nothing for the whole cluster:
         self.implied = self.own = ''    # if the context says it; if it is about that namespace's own object

@@ -245,13 +245,18 @@ def address_of(path: str, home: str) -> str:
 
 
 def line_of(read: dict[str, dict[str, int]], path: str, key: str) -> int:
-    """The line with the name of an object in a file, or 1 where nobody can tell. The names of files that were read are kept."""
+    """The line with the name of an object in a file, or 1 where nobody can tell."""
+    return known_line(read, path, key) or 1
+
+
+def known_line(read: dict[str, dict[str, int]], path: str, key: str) -> int:
+    """The same, or 0 where nobody can tell. The names of files that were read are kept."""
     if path not in read:
         read[path] = dict(names_in(path))
     kind, _, name = key.partition('/')
     # (an object may have got its namespace from -n)
     bare = '%s/default/%s' % (kind, name.partition('/')[2]) if kind in NAMESPACED else key
-    return read[path].get(key, read[path].get(bare, 1))
+    return read[path].get(key, read[path].get(bare, 0))
 
 
 def names_in(path: str) -> Iterator[tuple[str, int]]:

@@ -26,7 +26,7 @@ CHOICES = {'-o': ('format', 'table', 'wide', 'json', 'name'), '--color': ('color
 # What is no row: the answers of can-i, and the last line of a matrix.
 REMARKS = (('can-i', re.compile('yes|no')), ('matrix', re.compile(r'end|next\t[A-Za-z0-9_-]+')))
 UNKNOWN = ('no command of rbacaudit prints this: expected lines of can-i, who-can, rules, matrix, lint, powers, '
-           'paths or diff; rbacaudit-show --help lists their fields')
+           'paths, diff or unused; rbacaudit-show --help lists their fields')
 
 
 @dataclass
@@ -125,7 +125,8 @@ def keys_of(shape: Shape, cells: Sequence[str]) -> Iterator[tuple[str, str]]:
         # (the detail of these findings is the place of a rule or of a document)
         is_place = kind == 'detail' and cells[0] in ('L3', 'L7') and re.fullmatch(NUMBER, cells[4])
         is_list = kind == 'has' and LACKS[cells[0]]
-        yield key, 'number' if is_place else 'list' if is_list else kind
+        named = ('who' if cells[0] == 'subject' else 'verb') if kind == 'acted' else key
+        yield named, 'number' if is_place else 'list' if is_list else kind
 
 
 def objects_of(rows: Iterable[Row]) -> Iterator[str]:
