@@ -550,6 +550,8 @@ def faults(room):
                    'apiservices, bootstrap, volumes, namespaces')
     yield Case('U10', ['paths', '--to', 'kim', 'u:kim', missing], b'', 2,
                err='U10 --to takes u:USER, g:GROUP, ClusterRole/NAME, Role/NS/NAME or *; -n NS needs one of the last three')
+    yield Case('U11', ['unused', '--log', '-'], b'', 2,
+               err='U11 --log - may be given once, and needs a FILE: standard input can be read only once')
     yield Case('U9', ['who-can', '--indirect', '--why', 'get', 'pods', missing], b'', 2,
                err='U9 --indirect excludes --anywhere, --any-name, --every and --why; --steps needs --indirect')
     yield Case('a word that is not UTF-8', ['can-i', '--as', b'al\xffce', 'get', 'pods'], b'', 2, err='argument 3: not UTF-8')

@@ -207,12 +207,13 @@ def changes_of(roles, bindings, missing):
 def help_and_usage():
     """Help on standard output with status 0; a refused line on standard error with status 2."""
     for words in (['--help'], ['can-i', '--help'], ['who-can', '--help'], ['rules', '--help'], ['matrix', '--help'], ['universe', '--help'],
-                  ['lint', '--help'], ['powers', '--help'], ['paths', '--help'], ['diff', '--help'], ['-h'], ['lint', '-h']):
+                  ['lint', '--help'], ['powers', '--help'], ['paths', '--help'], ['diff', '--help'], ['unused', '--help'], ['-h'],
+                  ['lint', '-h']):
         ended = run(words)
         checked('%s is on standard output' % ' '.join(words),
              ended.returncode == 0 and b'Usage' in ended.stdout and not ended.stderr, repr(ended))
     commands = run(['--help']).stdout
-    for command in (b'can-i', b'who-can', b'rules', b'matrix', b'universe', b'lint', b'powers', b'paths', b'diff'):
+    for command in (b'can-i', b'who-can', b'rules', b'matrix', b'universe', b'lint', b'powers', b'paths', b'diff', b'unused'):
         checked('help names %s' % command.decode(), command in commands, repr(commands))
     options = run(['can-i', '--help']).stdout
     for option in (b'--as', b'--groups', b'--group <G>', b'-n, --namespace', b'-A, --all-namespaces', b'--in-namespace', b'--subresource', b'-q, --quiet',
@@ -220,7 +221,7 @@ def help_and_usage():
         checked('help names %s' % option.decode(), option in options, repr(options))
     for line in (b'Namespace to check (default: default)', b'five fields, joined by tabs', b'rbacaudit can-i --as alice -n dev get pods'):
         checked('help of can-i says "%s"' % line.decode(), line in options, repr(options))
-    for command in ('who-can', 'rules', 'matrix', 'lint', 'powers', 'paths', 'diff'):
+    for command in ('who-can', 'rules', 'matrix', 'lint', 'powers', 'paths', 'diff', 'unused'):
         text = run([command, '--help']).stdout
         checked('help of %s names FILE and has an example' % command, b'FILE' in text and b'rbacaudit %s ' % command.encode() in text, repr(text))
     for option in (b'--every', b'--once', b'--after <TOKEN>', b'--limit <N>'):
@@ -239,6 +240,8 @@ def help_and_usage():
     for said in (b'--only <CODES>', b'--skip-system', b'The exit status is 1 if a finding is listed', b'rbacaudit lint --only L1,L6 ',
                  b'rbacaudit lint --skip-system '):
         checked('help of lint says "%s"' % said.decode(), said in run(['lint', '--help']).stdout)
+    for said in (b'--log <LOG>', b'--skip-system', b'ten fields, joined by tabs', b'The exit status is 1 if a line is listed'):
+        checked('help of unused says "%s"' % said.decode(), said in run(['unused', '--help']).stdout)
     no_tokens = ['', 'MQ==', 'M', 'OQ', 'MQ', 'Mg', 'Mw', 'MQlnOmEJLQktCS0JeAkt=']
     key = '\tg:a\t-\t-\t-\tx\t-'
     no_tokens += map(token_of, ['2' + key, '1' + key + '\tClusterRoleBinding\t-\tb', '3' + key + '\tClusterRoleBinding\t-\tb',
@@ -504,6 +507,56 @@ def lint_streams():
         checked('help of lint names L%d' % code, b'L%d  ' % code in text, repr(text))
 
 
+def event(user, verb, **fields):
+    return {'kind': 'Event', 'apiVersion': 'audit.k8s.io/v1', 'stage': 'ResponseComplete', 'verb': verb, 'user': {'username': user}, **fields}
+
+
+def log_of(*events):
+    return b''.join(json.dumps(it).encode() + b'\n' for it in events)
+
+
+def unused_streams():
+    """What isn't used by logs of standard input and of files, in pieces of any size; logs that are refused; standard input for two."""
+    pods = {'verbs': ['get', 'delete'], 'apiGroups': [''], 'resources': ['pods']}
+    items = [role('dev', 'r', [pods]), binding('RoleBinding', 'b', 'Role', 'r', 'dev')]
+    used = event('alice', 'get', objectRef={'resource': 'pods', 'namespace': 'dev', 'name': 'a'})
+    whole = b'binding\tRoleBinding/dev/b\tRole/dev/r\t-\t-\t-\t-\t-\t-\t-\n'
+    left = b'permission\tRoleBinding/dev/b\tRole/dev/r\tRole/dev/r\t1\t-\tdelete\t-\tpods\t*\n'
+    other = event('bob', 'get', objectRef={'resource': 'pods', 'namespace': 'dev'})
+    both = event('alice', 'delete', objectRef={'resource': 'pods', 'namespace': 'dev', 'name': 'a'})
+    twice = 'U11 --log - may be given once, and needs a FILE: standard input can be read only once'
+    with tempfile.TemporaryDirectory() as room:
+        def put(name, given):
+            path = os.path.join(room, name)
+            with open(path, 'wb') as file:
+                file.write(given)
+            return path
+
+        given, empty, first = put('export.json', export(*items)), put('empty.log', b''), put('first.log', log_of(other, used))
+        second, bad = put('second.log', log_of(both).rstrip()), put('bad.log', log_of(used, other) + b'{}\n' + log_of(both))
+        for name, log, status, lines in (('an empty log', b'', 1, whole), ('blank lines', b'\n \r\n\t\n', 1, whole), ('others', log_of(other), 1, whole),
+                                         ('one request', log_of(used), 1, left), ('lines that end in CR', log_of(used).replace(b'\n', b'\r\n'), 1, left),
+                                         ('all of it', log_of(used, both), 0, b''), ('a last line without its end', log_of(used, both).rstrip(), 0, b''),
+                                         ('lines longer than a read', log_of({**used, 'note': 'n' * 200_000}, {**both, 'note': 'n' * 65_536}), 0, b''),
+                                         ('many lines', log_of(other) * 2_000 + log_of(used), 1, left)):
+            expect('unused by a log with %s' % name, ['unused', '--log', '-', given], status, lines, given=log)
+        expect('unused by a log in a file', ['unused', '--log', first], 1, left, given=export(*items))
+        expect('unused by two logs', ['unused', '--log', first, '--log', second, given], 0)
+        expect('unused by a file and by standard input', ['unused', '--log', first, '--log', '-', given], 0, given=log_of(both))
+        expect('unused, without names that begin with system:', ['unused', '--skip-system', '--log', empty, put('system.json', export(
+            role('dev', 'r', [pods]), binding('RoleBinding', 'system:b', 'Role', 'r', 'dev')))], 0)
+        for words, said in ((['--log', bad, given], 'log 1: line 3: G2 not an audit event'), (['--log', first, '--log', bad, given], 'log 2: line 3: G2 not an audit event'),
+                            (['--log', os.path.join(room, 'none'), given], 'log 1: I1 read fault'), (['--log', '-', given], 'log 1: line 1: G1 not JSON'),
+                            (['--log', '-'], twice), (['--log', '-', '--log', '-', given], twice), (['--log', '-', '--log', first, '--log', '-', given], twice)):
+            expect('unused %s' % ' '.join(map(os.path.basename, words)), ['unused', *words], 2, err=b'rbacaudit: %s\n' % said.encode(), given=b'\xff\n')
+        with open('/dev/full', 'wb') as full:
+            ended = run(['unused', '--log', empty, given], stdout=full)
+        checked('unused on a full disk', (ended.returncode, ended.stderr) == (2, b'rbacaudit: write failed after 0 bytes\n'), repr(ended))
+    for words in (['unused'], ['unused', 'a'], ['unused', '--log'], ['unused', '--log', 'a', '--skip-system', '--skip-system'], ['lint', '--log', 'a']):
+        ended = run(words)
+        checked('refused: %s' % ' '.join(words), ended.returncode == 2 and not ended.stdout and ended.stderr, repr(ended))
+
+
 def powers_streams():
     """Powers by an export in files, of a bad document, on a full disk, and the help, which has a line for each step."""
     runs = cluster_role('r', [{'verbs': ['create'], 'apiGroups': [''], 'resources': ['pods']}])
@@ -728,6 +781,6 @@ def long_paths():
 
 
 if __name__ == '__main__':
-    sys.exit(tested(streams, help_and_usage, full_disk, little_memory, rows, matrix_streams, universe_streams, rules_streams, lint_streams,
+    sys.exit(tested(streams, help_and_usage, full_disk, little_memory, rows, matrix_streams, universe_streams, rules_streams, lint_streams, unused_streams,
                     powers_streams, paths_streams, ways_streams, limits, universe_limits, wide_rules, ring, long_paths, transcripts,
                     links_and_heads, spaced_bindings, loop_of_pages, example_cluster))

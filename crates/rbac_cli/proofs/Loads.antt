@@ -1,5 +1,5 @@
 -- What the inputs of an action give, and their refusals.
-use Rattle.std.proofs.Common.{◌≡◌, ◌≢◌, ◌<◌, ◌≤◌, ◌+◌, ◌⊎◌, ◌∙◌, ℕ, suc, List, [], ◌∷◌, ◌++◌, length, refl, sym, subst, ap, ap₂, inl, inr, arith, take, drop, Vec, Global}
+use Rattle.std.proofs.Common.{Bool, ◌≡◌, ◌≢◌, ◌<◌, ◌≤◌, ◌+◌, ◌⊎◌, ◌∙◌, ℕ, suc, List, [], ◌∷◌, ◌++◌, length, refl, sym, subst, ap, ap₂, inl, inr, arith, take, drop, Vec, Global}
 use Rattle.std.specs.Option.{option_map}
 use Rattle.std.proofs.lemmas.List.{take-append-drop}
 use Rattle.std.specs.Prelude.{Option, Some, None, IfErr, IfOk, IfSome, IsOkAnd, Result, Ok, Err, MatchResult}
@@ -9,9 +9,10 @@ use Rattle.rbac_manifest.specs.declared.fault.Cause.TheVariants.{NotJson, NotAnO
 use Rattle.rbac_manifest.specs.declared.fault.LoadFault.{LoadFault}
 use Rattle.rbac_model.specs.Policies.{PolicyView}
 use Rattle.rbac_model.specs.declared.objects.Object.{Object}
-use Rattle.rbac_manifest.specs.Load.{HasTooManyGrants, document_fault, fault_from, file_refusal, in_file}
+use Rattle.rbac_diff.specs.Requests.{RequestView}
+use Rattle.rbac_manifest.specs.Load.{HasTooManyGrants, LoadedView, document_fault, fault_from, file_refusal, in_file}
 use Rattle.rbac_question.specs.declared.command.Action.{Action}
-use Rattle.rbac_question.specs.declared.command.Action.TheVariants.{CanI, WhoCan, WaysTo, Rules, Matrix, Lint, Powers, Paths, Diff}
+use Rattle.rbac_question.specs.declared.command.Action.TheVariants.{CanI, WhoCan, WaysTo, Rules, Matrix, Lint, Unused, Powers, Paths, Diff}
 use Rattle.rbac_question.specs.declared.command.Action.TheVariants as action
 use Rattle.rbac_question.specs.declared.command.Change.{Change}
 use Rattle.rbac_question.specs.declared.command.Change.TheVariants.{Over}
@@ -21,33 +22,46 @@ use Rattle.rbac_question.specs.declared.command.Command.{Command}
 use Rattle.rbac_cli.specs.Ends.{FailsToLoad, Ends, Writes}
 use Rattle.rbac_cli.specs.Printing.{StopsWith}
 use Rattle.rbac_cli.specs.declared.exports.Exports.{Exports}
-use Rattle.rbac_cli.specs.declared.exports.Exports.TheVariants.{Single, Pair}
+use Rattle.rbac_cli.specs.declared.exports.Exports.TheVariants.{Single, Pair, Used}
 use Rattle.rbac_cli.specs.declared.outcome.RunFault.{RunFault}
 use Rattle.rbac_cli.specs.declared.outcome.RunFault.TheVariants.{Load, Universe, Memory, Write}
 use Rattle.rbac_cli.specs.declared.outcome.Status.{Status}
 
 -- what is loaded for an action is what it is answered over
-pub over : (a : Action) (inputs : List (List ℕ)) (e : Exports) → AreLoaded a inputs e → IsForAction a e
-over (CanI who options q) inputs (Single l) h = tt
-over (WhoCan options q) inputs (Single l) h = tt
-over (WaysTo steps q) inputs (Single l) h = tt
-over (Rules who scope) inputs (Single l) h = tt
-over (Matrix options after limit) inputs (Single l) h = tt
-over (Lint only skip) inputs (Single l) h = tt
-over Powers inputs (Single l) h = tt
-over (Paths who steps to) inputs (Single l) h = tt
-over action.Universe inputs (Single l) h = tt
-over (Diff n change) inputs (Single l) h = h
-over (CanI who options q) inputs (Pair x y) h = h
-over (WhoCan options q) inputs (Pair x y) h = h
-over (WaysTo steps q) inputs (Pair x y) h = h
-over (Rules who scope) inputs (Pair x y) h = h
-over (Matrix options after limit) inputs (Pair x y) h = h
-over (Lint only skip) inputs (Pair x y) h = h
-over Powers inputs (Pair x y) h = h
-over (Paths who steps to) inputs (Pair x y) h = h
-over action.Universe inputs (Pair x y) h = h
-over (Diff n change) inputs (Pair x y) h = tt
+pub over : (a : Action) (inputs : List (List ℕ)) (log : List RequestView) (e : Exports) → AreLoaded a inputs log e → IsForAction a e
+over (CanI who options q) inputs log (Single l) h = tt
+over (WhoCan options q) inputs log (Single l) h = tt
+over (WaysTo steps q) inputs log (Single l) h = tt
+over (Rules who scope) inputs log (Single l) h = tt
+over (Matrix options after limit) inputs log (Single l) h = tt
+over (Lint only skip) inputs log (Single l) h = tt
+over Powers inputs log (Single l) h = tt
+over (Paths who steps to) inputs log (Single l) h = tt
+over action.Universe inputs log (Single l) h = tt
+over (CanI who options q) inputs log (Pair x y) h = h
+over (WhoCan options q) inputs log (Pair x y) h = h
+over (WaysTo steps q) inputs log (Pair x y) h = h
+over (Rules who scope) inputs log (Pair x y) h = h
+over (Matrix options after limit) inputs log (Pair x y) h = h
+over (Lint only skip) inputs log (Pair x y) h = h
+over Powers inputs log (Pair x y) h = h
+over (Paths who steps to) inputs log (Pair x y) h = h
+over action.Universe inputs log (Pair x y) h = h
+over (CanI who options q) inputs log (Used l requests) h = h
+over (WhoCan options q) inputs log (Used l requests) h = h
+over (WaysTo steps q) inputs log (Used l requests) h = h
+over (Rules who scope) inputs log (Used l requests) h = h
+over (Matrix options after limit) inputs log (Used l requests) h = h
+over (Lint only skip) inputs log (Used l requests) h = h
+over Powers inputs log (Used l requests) h = h
+over (Paths who steps to) inputs log (Used l requests) h = h
+over action.Universe inputs log (Used l requests) h = h
+over (Diff n change) inputs log (Single l) h = h
+over (Diff n change) inputs log (Pair x y) h = tt
+over (Diff n change) inputs log (Used l requests) h = h
+over (Unused skip) inputs log (Single l) h = h
+over (Unused skip) inputs log (Pair x y) h = h
+over (Unused skip) inputs log (Used l requests) h = tt
 
 -- ---- the file of a fault is one of the inputs
 
@@ -216,14 +230,14 @@ moved_memory n own moved e none memory =
     ap (λ (f : LoadFault). f.at) e ∙ ap (λ (o : Option At). option_map (λ (at : At). record at { file = n + at.file }) o) (none (sym (ap (λ (f : LoadFault). f.cause) e) ∙ memory))
 
 -- a run ends as writing the answer over what was loaded ends
-pub ended : (took : List ℕ → Type 0) (command : Command) (inputs : List (List ℕ)) (e : Exports) (r : Result Status RunFault) → AreLoaded command.action inputs e
-    → MatchResult r (Writes took e command.action) (StopsWith took e command.action) → Ends took command inputs r
-ended took command inputs e (Ok status) is h = (e, is, h)
-ended took command inputs e (Err (Load f)) is h = absurd h
-ended took command inputs e (Err (Universe f)) is h = ((e, is, h.0), h.1)
-ended took command inputs e (Err (Memory n)) is (inl h) = inl h
-ended took command inputs e (Err (Memory n)) is (inr h) = inr (e, is, h)
-ended took command inputs e (Err (Write n)) is h = (e, is, h)
+pub ended : (took : List ℕ → Type 0) (command : Command) (inputs : List (List ℕ)) (log : List RequestView) (e : Exports) (r : Result Status RunFault) → AreLoaded command.action inputs log e
+    → MatchResult r (Writes took e command.action) (StopsWith took e command.action) → Ends took command inputs log r
+ended took command inputs log e (Ok status) is h = (e, is, h)
+ended took command inputs log e (Err (Load f)) is h = absurd h
+ended took command inputs log e (Err (Universe f)) is h = ((e, is, h.0), h.1)
+ended took command inputs log e (Err (Memory n)) is (inl h) = inl h
+ended took command inputs log e (Err (Memory n)) is (inr h) = inr (e, is, h)
+ended took command inputs log e (Err (Write n)) is h = (e, is, h)
 
 -- what is printed for `diff` is what is printed for the one action that is answered over two policies
 pub of_diff : (P : Action → Type 0) (a : Action) (before after : PolicyView) → IsForAction a (Pair before after) → ((n : ℕ) (change : Change) → P (Diff n change)) → P a
@@ -237,3 +251,19 @@ of_diff P action.Universe before after is h = absurd is
 of_diff P (Lint only skip) before after is h = absurd is
 of_diff P Powers before after is h = absurd is
 of_diff P (Paths who steps to) before after is h = absurd is
+of_diff P (Unused skip) before after is h = absurd is
+
+-- what is printed for `unused` is what is printed for the one action that is answered over a log
+pub of_unused : (P : Action → Type 0) (a : Action) (l : LoadedView) (log : List RequestView) (skips : Bool) → IsForAction a (Used l log)
+    → ((skip : Bool) → a ≡ Unused skip → skips ≡ skip) → P (Unused skips) → P a
+of_unused P (Unused skip) l log skips is same h = subst (λ (b : Bool). P (Unused b)) (same skip refl) h
+of_unused P (CanI who options q) l log skips is same h = absurd is
+of_unused P (WhoCan options q) l log skips is same h = absurd is
+of_unused P (WaysTo steps q) l log skips is same h = absurd is
+of_unused P (Rules who scope) l log skips is same h = absurd is
+of_unused P (Matrix options after limit) l log skips is same h = absurd is
+of_unused P (Lint only skip) l log skips is same h = absurd is
+of_unused P Powers l log skips is same h = absurd is
+of_unused P (Paths who steps to) l log skips is same h = absurd is
+of_unused P action.Universe l log skips is same h = absurd is
+of_unused P (Diff n change) l log skips is same h = absurd is

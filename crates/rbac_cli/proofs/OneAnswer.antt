@@ -26,6 +26,9 @@ use Rattle.rbac_universe.proofs.OneUniverse.{one_sets}
 use Rattle.rbac_index.proofs.ListedLemmas.{one_listed}
 use Rattle.rbac_manifest.specs.Load.{LoadedView}
 use Rattle.rbac_lint.proofs.OneLines.{one_wanted}
+use Rattle.rbac_diff.specs.Requests.{RequestView}
+use Rattle.rbac_use.specs.Unused.{AreUnused}
+use Rattle.rbac_use.specs.declared.unused.Unused.{Unused as UnusedPart}
 use Rattle.rbac_diff.proofs.OneChanges.{one_changes}
 use Rattle.rbac_paths.specs.Nodes.{Somebody}
 use Rattle.rbac_paths.specs.OnePath.{IsPathTo}
@@ -36,17 +39,17 @@ use Rattle.rbac_paths.specs.WaysTo.{AreWaysTo, WayView}
 use Rattle.rbac_steps.specs.declared.steps.Step.{Step}
 use Rattle.rbac_document.proofs.OneDocument.{one_document}
 use Rattle.rbac_question.specs.declared.command.Action.{Action}
-use Rattle.rbac_question.specs.declared.command.Action.TheVariants.{CanI, WhoCan, WaysTo, Rules, Matrix, Universe, Lint, Powers, Paths, Diff}
+use Rattle.rbac_question.specs.declared.command.Action.TheVariants.{CanI, WhoCan, WaysTo, Rules, Matrix, Universe, Lint, Unused, Powers, Paths, Diff}
 use Rattle.rbac_question.specs.declared.command.HolderOptions.{HolderOptions}
 use Rattle.rbac_question.specs.declared.command.MatrixOptions.{MatrixOptions}
 use Rattle.rbac_question.specs.declared.command.Question.{Question}
 use Rattle.rbac_question.specs.declared.path_end.PathEnd.{PathEnd}
 use Rattle.rbac_cli.specs.HolderLines.{AreHolderLines, joined_lines}
-use Rattle.rbac_cli.specs.Out.{Answers, AreListed, IsAllowed, IsDenied, rules_text, findings_text, findings_status, wanted_meant, powers_text, paths_status, paths_text, ways_text, changes_text, changes_status, line_unless}
+use Rattle.rbac_cli.specs.Out.{Answers, AreListed, IsAllowed, IsDenied, rules_text, findings_text, findings_status, wanted_meant, powers_text, paths_status, paths_text, ways_text, changes_text, changes_status, line_unless, unused_status, unused_text}
 use Rattle.rbac_cli.specs.MatrixPage.{AreRows, AreListedRows}
 use Rattle.rbac_cli.specs.Meant.{IsScopeMeant, access_meant, requested_meant}
 use Rattle.rbac_cli.specs.declared.exports.Exports.{Exports}
-use Rattle.rbac_cli.specs.declared.exports.Exports.TheVariants.{Single, Pair}
+use Rattle.rbac_cli.specs.declared.exports.Exports.TheVariants.{Single, Pair, Used}
 use Rattle.rbac_cli.specs.declared.outcome.Status.{Status}
 use Rattle.rbac_matrix.specs.Every.{IsEvery, IsEveryRow, every_name}
 use Rattle.rbac_matrix.proofs.OneMatrix.{key_name, by_keys}
@@ -270,11 +273,22 @@ abbrev pub PathOne : Type 0
 PathOne = (p : PolicyView) (principals : List Who) (steps : List Step) (who : Who) (to : Text) (scope : Option Text) (xs chain other : List PathView)
     → ArePathsOf p principals steps who xs → IsPathTo (Somebody who) to scope xs chain → IsPathTo (Somebody who) to scope xs other → chain ≡ other
 
-module _ (powers_one : PowersOne) (paths_one : PathsOne) (path_one : PathOne) (ways_one : WaysOne) where
+abbrev pub UnusedOne : Type 0
+UnusedOne = (p : PolicyView) (log other : List RequestView) (skip : Bool) (xs others : List UnusedPart) → ((r : RequestView) → Contains log r ↔ Contains other r)
+    → AreUnused p log skip xs → AreUnused p other skip others → xs ≡ others
+
+module _ (powers_one : PowersOne) (paths_one : PathsOne) (path_one : PathOne) (ways_one : WaysOne) (unused_one : UnusedOne) where
   one_listing : (l : LoadedView) (who : Who) (steps : List Step) (to : Option PathEnd) (xs listed others : List PathView) → ArePathsOf l.policy l.principals steps who xs
       → AreListed (Somebody who) to xs listed → AreListed (Somebody who) to xs others → listed ≡ others
   one_listing l who steps None xs listed others are e f = e ∙ sym f
   one_listing l who steps (Some to) xs listed others are is too = path_one l.policy l.principals steps who to.what to.namespace xs listed others are is too
+
+  -- logs with the same requests have one answer
+  pub one_unused : (l : LoadedView) (log logged : List RequestView) (skip : Bool) (text other : List ℕ) (status ending : Status) → ((r : RequestView) → Contains log r ↔ Contains logged r)
+      → Answers (Used l log) (Unused skip) text status → Answers (Used l logged) (Unused skip) other ending → (text ≡ other) × (status ≡ ending)
+  one_unused l log logged skip text other status ending same (xs, are, e, s) (ys, those, f, t) =
+      let one = unused_one l.policy log logged skip xs ys same are those in
+      (e ∙ ap (unused_text l.policy) one ∙ sym f, s ∙ ap unused_status one ∙ sym t)
 
   pub one_answer : (e : Exports) (action : Action) (text other : List ℕ) (status ending : Status) → Answers e action text status → Answers e action other ending
       → (text ≡ other) × (status ≡ ending)
@@ -322,3 +336,16 @@ module _ (powers_one : PowersOne) (paths_one : PathsOne) (path_one : PathOne) (w
   one_answer (Pair before after) (Lint only skip) text other status ending a b = absurd a
   one_answer (Pair before after) Powers text other status ending a b = absurd a
   one_answer (Pair before after) (Paths who steps to) text other status ending a b = absurd a
+  one_answer (Single l) (Unused skip) text other status ending a b = absurd a
+  one_answer (Pair before after) (Unused skip) text other status ending a b = absurd a
+  one_answer (Used l log) (CanI who options q) text other status ending a b = absurd a
+  one_answer (Used l log) (WhoCan options q) text other status ending a b = absurd a
+  one_answer (Used l log) (WaysTo steps q) text other status ending a b = absurd a
+  one_answer (Used l log) (Rules who scope) text other status ending a b = absurd a
+  one_answer (Used l log) (Matrix options mark limit) text other status ending a b = absurd a
+  one_answer (Used l log) Universe text other status ending a b = absurd a
+  one_answer (Used l log) (Lint only skip) text other status ending a b = absurd a
+  one_answer (Used l log) Powers text other status ending a b = absurd a
+  one_answer (Used l log) (Paths who steps to) text other status ending a b = absurd a
+  one_answer (Used l log) (Diff n change) text other status ending a b = absurd a
+  one_answer (Used l log) (Unused skip) text other status ending a b = one_unused l log log skip text other status ending (λ r. (λ h. h, λ h. h)) a b

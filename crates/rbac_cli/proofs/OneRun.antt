@@ -12,19 +12,20 @@ use Rattle.rbac_model.specs.Policies.{PolicyView}
 use Rattle.rbac_model.specs.declared.objects.Object.{Object}
 use Rattle.std.specs.Prelude.{Option, Some, None}
 use Rattle.std.proofs.lemmas.Option.{same_Some}
+use Rattle.rbac_diff.specs.Requests.{RequestView}
 use Rattle.rbac_question.specs.declared.command.Action.{Action}
-use Rattle.rbac_question.specs.declared.command.Action.TheVariants.{CanI, WhoCan, WaysTo, Rules, Matrix, Lint, Powers, Paths, Diff}
+use Rattle.rbac_question.specs.declared.command.Action.TheVariants.{CanI, WhoCan, WaysTo, Rules, Matrix, Lint, Unused, Powers, Paths, Diff}
 use Rattle.rbac_question.specs.declared.command.Action.TheVariants as action
 use Rattle.rbac_question.specs.declared.command.Command.{Command}
 use Rattle.rbac_cli.specs.Exports.{AreLoaded, AreInputsRefused, IsSide, IsSideRefused, behind}
 use Rattle.rbac_cli.specs.Out.{Answers}
 use Rattle.rbac_cli.specs.declared.exports.Exports.{Exports}
-use Rattle.rbac_cli.specs.declared.exports.Exports.TheVariants.{Single, Pair}
-use Rattle.rbac_cli.specs.Ends.{Ends, LacksUniverse, IsUnstopped}
+use Rattle.rbac_cli.specs.declared.exports.Exports.TheVariants.{Single, Pair, Used}
+use Rattle.rbac_cli.specs.Ends.{Ends, HaveSameRequests, LacksUniverse, IsUnstopped}
 use Rattle.rbac_cli.specs.declared.outcome.Status.{Status}
 use Rattle.rbac_cli.specs.declared.outcome.RunFault.{RunFault}
 use Rattle.rbac_cli.specs.declared.outcome.RunFault.TheVariants.{Load, Universe, Memory, Write}
-use Rattle.rbac_cli.proofs.OneAnswer.{PathOne, PathsOne, PowersOne, WaysOne, one_answer}
+use Rattle.rbac_cli.proofs.OneAnswer.{PathOne, PathsOne, PowersOne, UnusedOne, WaysOne, one_answer, one_unused}
 
 -- what is known of loading and of universes
 abbrev pub LoadsOne : Type 0
@@ -74,12 +75,34 @@ lacks_for_one (Single l) Powers f g a b = absurd a
 lacks_for_one (Single l) (Paths who steps to) f g a b = absurd a
 lacks_for_one (Single l) (Diff n change) f g a b = absurd a
 lacks_for_one (Single l) (Matrix options after limit) f g a b = same_universe_fault l.lists f g a.0 a.1 b.0 b.1
+lacks_for_one (Single l) (Unused skip) f g a b = absurd a
 lacks_for_one (Pair before after) action f g a b = absurd a
+lacks_for_one (Used l log) action f g a b = absurd a
+
+-- what is loaded is the same, but that logs may have their requests in another order
+abbrev IsSameOver : Exports → Exports → Type 0
+IsSameOver (Used l log) (Used m logged) = (l ≡ m) × HaveSameRequests log logged
+IsSameOver e d = e ≡ d
+
+lacks_alike : (e d : Exports) (action : Action) (f : UniverseFault) → IsSameOver e d → LacksUniverse e action f → LacksUniverse d action f
+lacks_alike (Single l) d action f same a = subst (λ (x : Exports). LacksUniverse x action f) same a
+lacks_alike (Pair x y) d action f same a = absurd a
+lacks_alike (Used l log) d action f same a = absurd a
+
+lacks_back : (e d : Exports) (action : Action) (f : UniverseFault) → IsSameOver e d → LacksUniverse d action f → LacksUniverse e action f
+lacks_back (Single l) d action f same a = subst (λ (x : Exports). LacksUniverse x action f) (sym same) a
+lacks_back (Pair x y) d action f same a = subst (λ (x : Exports). LacksUniverse x action f) (sym same) a
+lacks_back (Used l log) (Used m logged) action f same a = absurd a
+lacks_back (Used l log) (Single m) action f same a = subst (λ (x : Exports). LacksUniverse x action f) (sym same) a
+lacks_back (Used l log) (Pair x y) action f same a = absurd a
+
+same_back : (log logged : List RequestView) → HaveSameRequests log logged → HaveSameRequests logged log
+same_back log logged same r = ((same r).1, (same r).0)
 
 none_and_some : {T : Type 0} (o : Option T) (x : T) → o ≡ None → o ≡ Some x → ⊥
 none_and_some o x none some = cc
 
-module _ (loads_one : LoadsOne) (no_fault : HasNoFault) (one_fault : HasOneFault) (resolves_one : ResolvesOne) (few_enough : HasNoTooMany) (no_universe_fault : HasNoUniverseFault) (powers_one : PowersOne) (paths_one : PathsOne) (path_one : PathOne) (ways_one : WaysOne) where
+module _ (loads_one : LoadsOne) (no_fault : HasNoFault) (one_fault : HasOneFault) (resolves_one : ResolvesOne) (few_enough : HasNoTooMany) (no_universe_fault : HasNoUniverseFault) (powers_one : PowersOne) (paths_one : PathsOne) (path_one : PathOne) (ways_one : WaysOne) (unused_one : UnusedOne) where
   -- what has an answer lacks no universe
   not_lacking : (e : Exports) (action : Action) (text : List ℕ) (status : Status) (f : UniverseFault) → Answers e action text status → LacksUniverse e action f → ⊥
   not_lacking (Single l) (CanI who options q) text status f a b = b
@@ -92,7 +115,9 @@ module _ (loads_one : LoadsOne) (no_fault : HasNoFault) (one_fault : HasOneFault
   not_lacking (Single l) (Paths who steps to) text status f a b = b
   not_lacking (Single l) (Diff n change) text status f a b = b
   not_lacking (Single l) (Matrix options after limit) text status f (u, rows, is, listed, e, zero) b = no_universe_fault l.lists u f is b.1 b.0
+  not_lacking (Single l) (Unused skip) text status f a b = b
   not_lacking (Pair before after) action text status f a b = b
+  not_lacking (Used l log) action text status f a b = b
 
   -- a side of a change that is loaded isn't refused, and one that is refused has one fault
   side_not_refused : (inputs : List (List ℕ)) (objects : List Object) (p : PolicyView) (f : LoadFault) → IsSide inputs objects p → IsSideRefused inputs objects f → ⊥
@@ -109,61 +134,125 @@ module _ (loads_one : LoadsOne) (no_fault : HasNoFault) (one_fault : HasOneFault
   one_single : (inputs : List (List ℕ)) (l m : LoadedView) → IsLoaded inputs l → IsLoaded inputs m → Single l ≡ Single m
   one_single inputs l m a b = ap Single (loads_one inputs l m a b)
 
-  one_loaded : (action : Action) (inputs : List (List ℕ)) (e d : Exports) → AreLoaded action inputs e → AreLoaded action inputs d → e ≡ d
-  one_loaded (Diff n change) inputs (Pair x y) (Pair v w) a b =
+  one_loaded : (action : Action) (inputs : List (List ℕ)) (log logged : List RequestView) → HaveSameRequests log logged → (e d : Exports) → AreLoaded action inputs log e → AreLoaded action inputs logged d → IsSameOver e d
+  one_loaded (Diff n change) inputs log logged same (Pair x y) (Pair v w) a b =
       rw (resolves_one _ x v a.0.1 b.0.1, resolves_one _ y w a.1.1 b.1.1) refl
-  one_loaded (Diff n change) inputs (Single l) d a b = absurd a
-  one_loaded (Diff n change) inputs (Pair x y) (Single m) a b = absurd b
-  one_loaded (CanI who options q) inputs (Single l) (Single m) a b = one_single inputs l m a b
-  one_loaded (WhoCan options q) inputs (Single l) (Single m) a b = one_single inputs l m a b
-  one_loaded (WaysTo steps q) inputs (Single l) (Single m) a b = one_single inputs l m a b
-  one_loaded (Rules who scope) inputs (Single l) (Single m) a b = one_single inputs l m a b
-  one_loaded (Matrix options after limit) inputs (Single l) (Single m) a b = one_single inputs l m a b
-  one_loaded action.Universe inputs (Single l) (Single m) a b = one_single inputs l m a b
-  one_loaded (Lint only skip) inputs (Single l) (Single m) a b = one_single inputs l m a b
-  one_loaded Powers inputs (Single l) (Single m) a b = one_single inputs l m a b
-  one_loaded (Paths who steps to) inputs (Single l) (Single m) a b = one_single inputs l m a b
-  one_loaded (CanI who options q) inputs (Pair x y) d a b = absurd a
-  one_loaded (WhoCan options q) inputs (Pair x y) d a b = absurd a
-  one_loaded (WaysTo steps q) inputs (Pair x y) d a b = absurd a
-  one_loaded (Rules who scope) inputs (Pair x y) d a b = absurd a
-  one_loaded (Matrix options after limit) inputs (Pair x y) d a b = absurd a
-  one_loaded action.Universe inputs (Pair x y) d a b = absurd a
-  one_loaded (Lint only skip) inputs (Pair x y) d a b = absurd a
-  one_loaded Powers inputs (Pair x y) d a b = absurd a
-  one_loaded (Paths who steps to) inputs (Pair x y) d a b = absurd a
-  one_loaded (CanI who options q) inputs (Single l) (Pair x y) a b = absurd b
-  one_loaded (WhoCan options q) inputs (Single l) (Pair x y) a b = absurd b
-  one_loaded (WaysTo steps q) inputs (Single l) (Pair x y) a b = absurd b
-  one_loaded (Rules who scope) inputs (Single l) (Pair x y) a b = absurd b
-  one_loaded (Matrix options after limit) inputs (Single l) (Pair x y) a b = absurd b
-  one_loaded action.Universe inputs (Single l) (Pair x y) a b = absurd b
-  one_loaded (Lint only skip) inputs (Single l) (Pair x y) a b = absurd b
-  one_loaded Powers inputs (Single l) (Pair x y) a b = absurd b
-  one_loaded (Paths who steps to) inputs (Single l) (Pair x y) a b = absurd b
+  one_loaded (Diff n change) inputs log logged same (Single l) d a b = absurd a
+  one_loaded (Diff n change) inputs log logged same (Used l requests) d a b = absurd a
+  one_loaded (Diff n change) inputs log logged same (Pair x y) (Single m) a b = absurd b
+  one_loaded (Diff n change) inputs log logged same (Pair x y) (Used m requests) a b = absurd b
+  one_loaded (Unused skip) inputs log logged same (Used l requests) (Used m others) a b =
+      (loads_one inputs l m a.0 b.0, rw (a.1, b.1) same)
+  one_loaded (Unused skip) inputs log logged same (Single l) d a b = absurd a
+  one_loaded (Unused skip) inputs log logged same (Pair x y) d a b = absurd a
+  one_loaded (Unused skip) inputs log logged same (Used l requests) (Single m) a b = absurd b
+  one_loaded (Unused skip) inputs log logged same (Used l requests) (Pair x y) a b = absurd b
+  one_loaded (CanI who options q) inputs log logged same (Single l) (Single m) a b = one_single inputs l m a b
+  one_loaded (WhoCan options q) inputs log logged same (Single l) (Single m) a b = one_single inputs l m a b
+  one_loaded (WaysTo steps q) inputs log logged same (Single l) (Single m) a b = one_single inputs l m a b
+  one_loaded (Rules who scope) inputs log logged same (Single l) (Single m) a b = one_single inputs l m a b
+  one_loaded (Matrix options after limit) inputs log logged same (Single l) (Single m) a b = one_single inputs l m a b
+  one_loaded action.Universe inputs log logged same (Single l) (Single m) a b = one_single inputs l m a b
+  one_loaded (Lint only skip) inputs log logged same (Single l) (Single m) a b = one_single inputs l m a b
+  one_loaded Powers inputs log logged same (Single l) (Single m) a b = one_single inputs l m a b
+  one_loaded (Paths who steps to) inputs log logged same (Single l) (Single m) a b = one_single inputs l m a b
+  one_loaded (CanI who options q) inputs log logged same (Pair x y) d a b = absurd a
+  one_loaded (WhoCan options q) inputs log logged same (Pair x y) d a b = absurd a
+  one_loaded (WaysTo steps q) inputs log logged same (Pair x y) d a b = absurd a
+  one_loaded (Rules who scope) inputs log logged same (Pair x y) d a b = absurd a
+  one_loaded (Matrix options after limit) inputs log logged same (Pair x y) d a b = absurd a
+  one_loaded action.Universe inputs log logged same (Pair x y) d a b = absurd a
+  one_loaded (Lint only skip) inputs log logged same (Pair x y) d a b = absurd a
+  one_loaded Powers inputs log logged same (Pair x y) d a b = absurd a
+  one_loaded (Paths who steps to) inputs log logged same (Pair x y) d a b = absurd a
+  one_loaded (CanI who options q) inputs log logged same (Used l requests) d a b = absurd a
+  one_loaded (WhoCan options q) inputs log logged same (Used l requests) d a b = absurd a
+  one_loaded (WaysTo steps q) inputs log logged same (Used l requests) d a b = absurd a
+  one_loaded (Rules who scope) inputs log logged same (Used l requests) d a b = absurd a
+  one_loaded (Matrix options after limit) inputs log logged same (Used l requests) d a b = absurd a
+  one_loaded action.Universe inputs log logged same (Used l requests) d a b = absurd a
+  one_loaded (Lint only skip) inputs log logged same (Used l requests) d a b = absurd a
+  one_loaded Powers inputs log logged same (Used l requests) d a b = absurd a
+  one_loaded (Paths who steps to) inputs log logged same (Used l requests) d a b = absurd a
+  one_loaded (CanI who options q) inputs log logged same (Single l) (Pair x y) a b = absurd b
+  one_loaded (WhoCan options q) inputs log logged same (Single l) (Pair x y) a b = absurd b
+  one_loaded (WaysTo steps q) inputs log logged same (Single l) (Pair x y) a b = absurd b
+  one_loaded (Rules who scope) inputs log logged same (Single l) (Pair x y) a b = absurd b
+  one_loaded (Matrix options after limit) inputs log logged same (Single l) (Pair x y) a b = absurd b
+  one_loaded action.Universe inputs log logged same (Single l) (Pair x y) a b = absurd b
+  one_loaded (Lint only skip) inputs log logged same (Single l) (Pair x y) a b = absurd b
+  one_loaded Powers inputs log logged same (Single l) (Pair x y) a b = absurd b
+  one_loaded (Paths who steps to) inputs log logged same (Single l) (Pair x y) a b = absurd b
+  one_loaded (CanI who options q) inputs log logged same (Single l) (Used m requests) a b = absurd b
+  one_loaded (WhoCan options q) inputs log logged same (Single l) (Used m requests) a b = absurd b
+  one_loaded (WaysTo steps q) inputs log logged same (Single l) (Used m requests) a b = absurd b
+  one_loaded (Rules who scope) inputs log logged same (Single l) (Used m requests) a b = absurd b
+  one_loaded (Matrix options after limit) inputs log logged same (Single l) (Used m requests) a b = absurd b
+  one_loaded action.Universe inputs log logged same (Single l) (Used m requests) a b = absurd b
+  one_loaded (Lint only skip) inputs log logged same (Single l) (Used m requests) a b = absurd b
+  one_loaded Powers inputs log logged same (Single l) (Used m requests) a b = absurd b
+  one_loaded (Paths who steps to) inputs log logged same (Single l) (Used m requests) a b = absurd b
 
-  not_refused : (action : Action) (inputs : List (List ℕ)) (e : Exports) (f : LoadFault) → AreLoaded action inputs e → AreInputsRefused action inputs f → ⊥
-  not_refused (Diff n change) inputs (Pair x y) f a (inl h) = side_not_refused _ _ x f a.0 h
-  not_refused (Diff n change) inputs (Pair x y) f a (inr h) = side_not_refused _ _ y h.1.0 a.1 h.1.1
-  not_refused (Diff n change) inputs (Single l) f a h = a
-  not_refused (CanI who options q) inputs (Single l) f a h = no_fault inputs l f a h
-  not_refused (WhoCan options q) inputs (Single l) f a h = no_fault inputs l f a h
-  not_refused (WaysTo steps q) inputs (Single l) f a h = no_fault inputs l f a h
-  not_refused (Rules who scope) inputs (Single l) f a h = no_fault inputs l f a h
-  not_refused (Matrix options after limit) inputs (Single l) f a h = no_fault inputs l f a h
-  not_refused action.Universe inputs (Single l) f a h = no_fault inputs l f a h
-  not_refused (Lint only skip) inputs (Single l) f a h = no_fault inputs l f a h
-  not_refused Powers inputs (Single l) f a h = no_fault inputs l f a h
-  not_refused (Paths who steps to) inputs (Single l) f a h = no_fault inputs l f a h
-  not_refused (CanI who options q) inputs (Pair x y) f a h = a
-  not_refused (WhoCan options q) inputs (Pair x y) f a h = a
-  not_refused (WaysTo steps q) inputs (Pair x y) f a h = a
-  not_refused (Rules who scope) inputs (Pair x y) f a h = a
-  not_refused (Matrix options after limit) inputs (Pair x y) f a h = a
-  not_refused action.Universe inputs (Pair x y) f a h = a
-  not_refused (Lint only skip) inputs (Pair x y) f a h = a
-  not_refused Powers inputs (Pair x y) f a h = a
-  not_refused (Paths who steps to) inputs (Pair x y) f a h = a
+  -- what is the same but for the order of requests has one answer
+  answers_alike : (e d : Exports) (action : Action) (text other : List ℕ) (status ending : Status) → IsSameOver e d → Answers e action text status → Answers d action other ending
+      → (text ≡ other) × (status ≡ ending)
+  answers_alike (Single l) d action text other status ending same a b =
+      one_answer powers_one paths_one path_one ways_one unused_one d action text other status ending (subst (λ (x : Exports). Answers x action text status) same a) b
+  answers_alike (Pair x y) d action text other status ending same a b =
+      one_answer powers_one paths_one path_one ways_one unused_one d action text other status ending (subst (λ (z : Exports). Answers z action text status) same a) b
+  answers_alike (Used l log) (Single m) action text other status ending same a b =
+      one_answer powers_one paths_one path_one ways_one unused_one (Single m) action text other status ending (subst (λ (x : Exports). Answers x action text status) same a) b
+  answers_alike (Used l log) (Pair x y) action text other status ending same a b =
+      one_answer powers_one paths_one path_one ways_one unused_one (Pair x y) action text other status ending (subst (λ (z : Exports). Answers z action text status) same a) b
+  answers_alike (Used l log) (Used m logged) (Unused skip) text other status ending same a b =
+      one_unused powers_one paths_one path_one ways_one unused_one m log logged skip text other status ending same.1
+      (subst (λ (x : LoadedView). Answers (Used x log) (Unused skip) text status) same.0 a) b
+  answers_alike (Used l log) (Used m logged) (CanI who options q) text other status ending same a b = absurd a
+  answers_alike (Used l log) (Used m logged) (WhoCan options q) text other status ending same a b = absurd a
+  answers_alike (Used l log) (Used m logged) (WaysTo steps q) text other status ending same a b = absurd a
+  answers_alike (Used l log) (Used m logged) (Rules who scope) text other status ending same a b = absurd a
+  answers_alike (Used l log) (Used m logged) (Matrix options after limit) text other status ending same a b = absurd a
+  answers_alike (Used l log) (Used m logged) action.Universe text other status ending same a b = absurd a
+  answers_alike (Used l log) (Used m logged) (Lint only skip) text other status ending same a b = absurd a
+  answers_alike (Used l log) (Used m logged) Powers text other status ending same a b = absurd a
+  answers_alike (Used l log) (Used m logged) (Paths who steps to) text other status ending same a b = absurd a
+  answers_alike (Used l log) (Used m logged) (Diff n change) text other status ending same a b = absurd a
+
+  not_refused : (action : Action) (inputs : List (List ℕ)) (log : List RequestView) (e : Exports) (f : LoadFault) → AreLoaded action inputs log e → AreInputsRefused action inputs f → ⊥
+  not_refused (Diff n change) inputs log (Pair x y) f a (inl h) = side_not_refused _ _ x f a.0 h
+  not_refused (Diff n change) inputs log (Pair x y) f a (inr h) = side_not_refused _ _ y h.1.0 a.1 h.1.1
+  not_refused (Diff n change) inputs log (Single l) f a h = a
+  not_refused (Diff n change) inputs log (Used l requests) f a h = a
+  not_refused (Unused skip) inputs log (Used l requests) f a h = no_fault inputs l f a.0 h
+  not_refused (Unused skip) inputs log (Single l) f a h = a
+  not_refused (Unused skip) inputs log (Pair x y) f a h = a
+  not_refused (CanI who options q) inputs log (Single l) f a h = no_fault inputs l f a h
+  not_refused (WhoCan options q) inputs log (Single l) f a h = no_fault inputs l f a h
+  not_refused (WaysTo steps q) inputs log (Single l) f a h = no_fault inputs l f a h
+  not_refused (Rules who scope) inputs log (Single l) f a h = no_fault inputs l f a h
+  not_refused (Matrix options after limit) inputs log (Single l) f a h = no_fault inputs l f a h
+  not_refused action.Universe inputs log (Single l) f a h = no_fault inputs l f a h
+  not_refused (Lint only skip) inputs log (Single l) f a h = no_fault inputs l f a h
+  not_refused Powers inputs log (Single l) f a h = no_fault inputs l f a h
+  not_refused (Paths who steps to) inputs log (Single l) f a h = no_fault inputs l f a h
+  not_refused (CanI who options q) inputs log (Pair x y) f a h = a
+  not_refused (WhoCan options q) inputs log (Pair x y) f a h = a
+  not_refused (WaysTo steps q) inputs log (Pair x y) f a h = a
+  not_refused (Rules who scope) inputs log (Pair x y) f a h = a
+  not_refused (Matrix options after limit) inputs log (Pair x y) f a h = a
+  not_refused action.Universe inputs log (Pair x y) f a h = a
+  not_refused (Lint only skip) inputs log (Pair x y) f a h = a
+  not_refused Powers inputs log (Pair x y) f a h = a
+  not_refused (Paths who steps to) inputs log (Pair x y) f a h = a
+  not_refused (CanI who options q) inputs log (Used l requests) f a h = a
+  not_refused (WhoCan options q) inputs log (Used l requests) f a h = a
+  not_refused (WaysTo steps q) inputs log (Used l requests) f a h = a
+  not_refused (Rules who scope) inputs log (Used l requests) f a h = a
+  not_refused (Matrix options after limit) inputs log (Used l requests) f a h = a
+  not_refused action.Universe inputs log (Used l requests) f a h = a
+  not_refused (Lint only skip) inputs log (Used l requests) f a h = a
+  not_refused Powers inputs log (Used l requests) f a h = a
+  not_refused (Paths who steps to) inputs log (Used l requests) f a h = a
 
   one_refusal : (action : Action) (inputs : List (List ℕ)) (f g : LoadFault) → AreInputsRefused action inputs f → AreInputsRefused action inputs g → f ≡ g
   one_refusal (Diff n change) inputs f g (inl a) (inl b) = one_side_refusal _ _ f g a b
@@ -178,39 +267,40 @@ module _ (loads_one : LoadsOne) (no_fault : HasNoFault) (one_fault : HasOneFault
   one_refusal (Matrix options after limit) inputs f g a b = one_fault inputs f g a b
   one_refusal action.Universe inputs f g a b = one_fault inputs f g a b
   one_refusal (Lint only skip) inputs f g a b = one_fault inputs f g a b
+  one_refusal (Unused skip) inputs f g a b = one_fault inputs f g a b
   one_refusal Powers inputs f g a b = one_fault inputs f g a b
   one_refusal (Paths who steps to) inputs f g a b = one_fault inputs f g a b
 
   module _ (command : Command) (inputs : List (List ℕ)) where
-    answered : (took others : List ℕ → Type 0) (status : Status) (other : Result Status RunFault) → IsUnstopped other
-        → Ends took command inputs (Ok status) → Ends others command inputs other → EndAlike took others (Ok status) other
-    answered took others status (Ok ending) s (l, is, (text, a, t)) (m, are, (more, b, u)) =
-        let here = subst (λ (x : Exports). Answers x command.action text status) (one_loaded command.action inputs l m is are) a in
-        let same = one_answer powers_one paths_one path_one ways_one m command.action text more status ending here b in
-        (ap Ok same.1, (text, t, subst others (sym same.0) u))
-    answered took others status (Err (Load f)) s (l, is, told) (has, t) = absurd (not_refused command.action inputs l f is has)
-    answered took others status (Err (Universe f)) s (l, is, (text, a, t)) ((m, are, lacks), u) =
-        let here = subst (λ (x : Exports). Answers x command.action text status) (one_loaded command.action inputs l m is are) a in
-        absurd (not_lacking m command.action text status f here lacks)
-    answered took others status (Err (Memory n)) s a b = absurd s
-    answered took others status (Err (Write n)) s a b = absurd s
+    answered : (log logged : List RequestView) → HaveSameRequests log logged → (took others : List ℕ → Type 0) (status : Status) (other : Result Status RunFault) → IsUnstopped other
+        → Ends took command inputs log (Ok status) → Ends others command inputs logged other → EndAlike took others (Ok status) other
+    answered log logged same took others status (Ok ending) s (l, is, (text, a, t)) (m, are, (more, b, u)) =
+        let alike = answers_alike l m command.action text more status ending (one_loaded command.action inputs log logged same l m is are) a b in
+        (ap Ok alike.1, (text, t, subst others (sym alike.0) u))
+    answered log logged same took others status (Err (Load f)) s (l, is, told) (has, t) = absurd (not_refused command.action inputs log l f is has)
+    answered log logged same took others status (Err (Universe f)) s (l, is, (text, a, t)) ((m, are, lacks), u) =
+        let here = lacks_back l m command.action f (one_loaded command.action inputs log logged same l m is are) lacks in
+        absurd (not_lacking l command.action text status f a here)
+    answered log logged same took others status (Err (Memory n)) s a b = absurd s
+    answered log logged same took others status (Err (Write n)) s a b = absurd s
 
     -- both are refused
-    refused : (took others : List ℕ → Type 0) (f g : RunFault) → IsUnstopped (Err f) → IsUnstopped (Err g)
-        → Ends took command inputs (Err f) → Ends others command inputs (Err g) → EndAlike took others (Err f) (Err g)
-    refused took others (Load f) (Load g) r s a b = (ap (λ x. Err (Load x)) (one_refusal command.action inputs f g a.0 b.0), ([], a.1, b.1))
-    refused took others (Load f) (Universe g) r s a b = absurd (not_refused command.action inputs b.0.0 f b.0.1 a.0)
-    refused took others (Universe f) (Load g) r s a b = absurd (not_refused command.action inputs a.0.0 g a.0.1 b.0)
-    refused took others (Universe f) (Universe g) r s ((l, is, lacks), t) ((m, are, other), u) =
-        let here = subst (λ (x : Exports). LacksUniverse x command.action f) (one_loaded command.action inputs l m is are) lacks in
+    refused : (log logged : List RequestView) → HaveSameRequests log logged → (took others : List ℕ → Type 0) (f g : RunFault) → IsUnstopped (Err f) → IsUnstopped (Err g)
+        → Ends took command inputs log (Err f) → Ends others command inputs logged (Err g) → EndAlike took others (Err f) (Err g)
+    refused log logged same took others (Load f) (Load g) r s a b = (ap (λ x. Err (Load x)) (one_refusal command.action inputs f g a.0 b.0), ([], a.1, b.1))
+    refused log logged same took others (Load f) (Universe g) r s a b = absurd (not_refused command.action inputs logged b.0.0 f b.0.1 a.0)
+    refused log logged same took others (Universe f) (Load g) r s a b = absurd (not_refused command.action inputs log a.0.0 g a.0.1 b.0)
+    refused log logged same took others (Universe f) (Universe g) r s ((l, is, lacks), t) ((m, are, other), u) =
+        let here = lacks_alike l m command.action f (one_loaded command.action inputs log logged same l m is are) lacks in
         (ap (λ x. Err (Universe x)) (lacks_for_one m command.action f g here other), ([], t, u))
-    refused took others (Memory n) g r s a b = absurd r
-    refused took others (Write n) g r s a b = absurd r
-    refused took others f (Memory n) r s a b = absurd s
-    refused took others f (Write n) r s a b = absurd s
+    refused log logged same took others (Memory n) g r s a b = absurd r
+    refused log logged same took others (Write n) g r s a b = absurd r
+    refused log logged same took others f (Memory n) r s a b = absurd s
+    refused log logged same took others f (Write n) r s a b = absurd s
 
-    pub one_run : (took others : List ℕ → Type 0) (ended other : Result Status RunFault) → IsUnstopped ended → IsUnstopped other
-        → Ends took command inputs ended → Ends others command inputs other → EndAlike took others ended other
-    one_run took others (Ok status) other r s a b = answered took others status other s a b
-    one_run took others (Err f) (Ok ending) r s a b = alike_back others took (Ok ending) (Err f) (answered others took ending (Err f) r b a)
-    one_run took others (Err f) (Err g) r s a b = refused took others f g r s a b
+    pub one_run : (log logged : List RequestView) → HaveSameRequests log logged → (took others : List ℕ → Type 0) (ended other : Result Status RunFault) → IsUnstopped ended → IsUnstopped other
+        → Ends took command inputs log ended → Ends others command inputs logged other → EndAlike took others ended other
+    one_run log logged same took others (Ok status) other r s a b = answered log logged same took others status other s a b
+    one_run log logged same took others (Err f) (Ok ending) r s a b =
+        alike_back others took (Ok ending) (Err f) (answered logged log (same_back log logged same) others took ending (Err f) r b a)
+    one_run log logged same took others (Err f) (Err g) r s a b = refused log logged same took others f g r s a b

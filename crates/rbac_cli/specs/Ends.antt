@@ -1,8 +1,9 @@
 -- How a run ends. `took bytes` means that the writer took exactly these bytes in the run.
 use Rattle.std.specs.Prelude.{◌≡◌, ◌≢◌, ℕ, ◌⊎◌, Bool, true, false, List, [], length, Result, Ok}
-use Rattle.std.specs.Prelude.{Err, MatchResult}
+use Rattle.std.specs.Prelude.{◌↔◌, Contains, Err, MatchResult}
 use Rattle.rbac_streams.specs.Taken.{counted}
 use Rattle.rbac_terms.specs.Text.{BeginsWith}
+use Rattle.rbac_diff.specs.Requests.{RequestView}
 use Rattle.rbac_document.specs.Names.{resource_name}
 use Rattle.rbac_lists.specs.Wide.{AreTooMany}
 use Rattle.rbac_universe.specs.Sets.{HasUniverseFault}
@@ -45,13 +46,15 @@ LacksUniverse (Single l) action.Universe fault = (fault ≡ universe.TooLarge)
 LacksUniverse e action fault = ⊥
 
 -- the inputs are loaded, and what the command means over them is written
-abbrev pub Succeeds : (List ℕ → Type 0) → Command → List (List ℕ) → Status → Type 0
-Succeeds took command inputs status = (e : Exports) × AreLoaded command.action inputs e
+abbrev pub Succeeds : (List ℕ → Type 0) → Command → List (List ℕ) → List RequestView → Status
+    → Type 0
+Succeeds took command inputs log status = (e : Exports) × AreLoaded command.action inputs log e
     × Writes took e command.action status
 
 -- the inputs are loaded, and writing stopped within what the command means
-abbrev pub StopsShort : (List ℕ → Type 0) → Command → List (List ℕ) → ℕ → Type 0
-StopsShort took command inputs n = (e : Exports) × AreLoaded command.action inputs e
+abbrev pub StopsShort : (List ℕ → Type 0) → Command → List (List ℕ) → List RequestView → ℕ
+    → Type 0
+StopsShort took command inputs log n = (e : Exports) × AreLoaded command.action inputs log e
     × WritesPrefix took e command.action n
 
 -- inputs are refused for a fault, or the run is out of memory before anything is written
@@ -63,17 +66,21 @@ FailsToLoad refused (Write n) = ⊥
 
 -- the inputs are refused for the fault that they have, or they are loaded but lack a universe, and
 -- in both cases nothing is written; or the run is out of memory; or a write failed
-abbrev pub Faults : (List ℕ → Type 0) → Command → List (List ℕ) → RunFault → Type 0
-Faults took command inputs (Load fault) = AreInputsRefused command.action inputs fault × took []
-Faults took command inputs (Universe fault) = ((e : Exports) × AreLoaded command.action inputs e
-    × LacksUniverse e command.action fault) × took []
-Faults took command inputs (Memory n) = WritesNothing took n ⊎ StopsShort took command inputs n
-Faults took command inputs (Write n) = StopsShort took command inputs n
+abbrev pub Faults : (List ℕ → Type 0) → Command → List (List ℕ) → List RequestView → RunFault
+    → Type 0
+Faults took command inputs log (Load fault) =
+    AreInputsRefused command.action inputs fault × took []
+Faults took command inputs log (Universe fault) = ((e : Exports)
+    × AreLoaded command.action inputs log e × LacksUniverse e command.action fault) × took []
+Faults took command inputs log (Memory n) =
+    WritesNothing took n ⊎ StopsShort took command inputs log n
+Faults took command inputs log (Write n) = StopsShort took command inputs log n
 
 -- how a run of the command over these inputs ends
-abbrev pub Ends : (List ℕ → Type 0) → Command → List (List ℕ) → Result Status RunFault → Type 0
-Ends took command inputs ended =
-    MatchResult ended (Succeeds took command inputs) (Faults took command inputs)
+abbrev pub Ends : (List ℕ → Type 0) → Command → List (List ℕ) → List RequestView
+    → Result Status RunFault → Type 0
+Ends took command inputs log ended =
+    MatchResult ended (Succeeds took command inputs log) (Faults took command inputs log)
 
 -- a write failed
 abbrev pub is_write_fault : Result Status RunFault → Bool
@@ -82,6 +89,10 @@ is_write_fault (Err (Load fault)) = false
 is_write_fault (Err (Universe fault)) = false
 is_write_fault (Err (Memory n)) = false
 is_write_fault (Err (Write n)) = true
+
+-- two logs have the same requests, in whatever order and however often
+abbrev pub HaveSameRequests : List RequestView → List RequestView → Type 0
+HaveSameRequests log other = (r : RequestView) → Contains log r ↔ Contains other r
 
 -- the run neither ran out of memory nor failed to write
 abbrev pub IsUnstopped : Result Status RunFault → Type 0

@@ -1,6 +1,7 @@
 -- What the inputs of a command give, and why they give nothing.
 use Rattle.std.specs.Prelude.{◌≡◌, ◌+◌, ◌⊎◌, ℕ, List, Some, None, length, take, drop}
 use Rattle.std.specs.Option.{option_map}
+use Rattle.rbac_diff.specs.Requests.{RequestView}
 use Rattle.rbac_model.specs.Policies.{PolicyView}
 use Rattle.rbac_model.specs.declared.objects.Object.{Object}
 use Rattle.rbac_manifest.specs.Changed.{IsResolved, changed_objects}
@@ -10,11 +11,11 @@ use Rattle.rbac_manifest.specs.Load.{all_contents, document_fault}
 use Rattle.rbac_manifest.specs.declared.fault.At.{At}
 use Rattle.rbac_manifest.specs.declared.fault.LoadFault.{LoadFault}
 use Rattle.rbac_question.specs.declared.command.Action.{Action}
-use Rattle.rbac_question.specs.declared.command.Action.TheVariants.{Diff}
+use Rattle.rbac_question.specs.declared.command.Action.TheVariants.{Diff, Unused}
 use Rattle.rbac_question.specs.declared.command.Change.{Change}
 use Rattle.rbac_question.specs.declared.command.Change.TheVariants.{After, Over}
 use Rattle.rbac_cli.specs.declared.exports.Exports.{Exports}
-use Rattle.rbac_cli.specs.declared.exports.Exports.TheVariants.{Single, Pair}
+use Rattle.rbac_cli.specs.declared.exports.Exports.TheVariants.{Single, Pair, Used}
 
 -- the objects that documents give, in order
 abbrev pub objects_of : List (List ℕ) → List Object
@@ -65,13 +66,16 @@ IsChangeRefused change first others fault = IsSideRefused first (objects_of firs
     × (fault ≡ behind (length first) own)))
 
 -- the inputs are loaded: for `diff` the first n give the policy before a change, and the others the
--- one after it; otherwise all together give an export
-abbrev pub AreLoaded : Action → List (List ℕ) → Exports → Type 0
-AreLoaded (Diff n change) inputs (Pair before after) =
+-- one after it; otherwise all together give an export, which comes with the log for `unused`
+abbrev pub AreLoaded : Action → List (List ℕ) → List RequestView → Exports → Type 0
+AreLoaded (Diff n change) inputs log (Pair before after) =
     IsSideBefore (take n inputs) before × IsSideAfter change (take n inputs) (drop n inputs) after
-AreLoaded (Diff n change) inputs (Single l) = ⊥
-AreLoaded action inputs (Single l) = IsLoaded inputs l
-AreLoaded action inputs (Pair before after) = ⊥
+AreLoaded (Unused skip_system) inputs log (Used l requests) =
+    IsLoaded inputs l × (requests ≡ log)
+AreLoaded (Diff n change) inputs log e = ⊥
+AreLoaded (Unused skip_system) inputs log e = ⊥
+AreLoaded action inputs log (Single l) = IsLoaded inputs l
+AreLoaded action inputs log e = ⊥
 
 -- the inputs are refused for this fault
 abbrev pub AreInputsRefused : Action → List (List ℕ) → LoadFault → Type 0
@@ -79,9 +83,12 @@ AreInputsRefused (Diff n change) inputs fault =
     IsChangeRefused change (take n inputs) (drop n inputs) fault
 AreInputsRefused action inputs fault = HasFault inputs fault
 
--- what the action is answered over: `diff` over two policies, everything else over one export
+-- what the action is answered over: `diff` over two policies, `unused` over an export and a log,
+-- everything else over one export
 abbrev pub IsForAction : Action → Exports → Type 0
 IsForAction (Diff n change) (Pair before after) = Unit {0}
-IsForAction (Diff n change) (Single l) = ⊥
+IsForAction (Unused skip_system) (Used l log) = Unit {0}
+IsForAction (Diff n change) e = ⊥
+IsForAction (Unused skip_system) e = ⊥
 IsForAction action (Single l) = Unit {0}
-IsForAction action (Pair before after) = ⊥
+IsForAction action e = ⊥

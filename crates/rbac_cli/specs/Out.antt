@@ -32,7 +32,7 @@ use Rattle.rbac_diff.specs.Lines.{change_text}
 use Rattle.rbac_question.specs.declared.command.Action.{Action}
 use Rattle.rbac_question.specs.declared.command.Action.TheVariants.{CanI, WhoCan, WaysTo}
 use Rattle.rbac_question.specs.declared.command.Action.TheVariants.{Rules, Matrix, Universe, Lint}
-use Rattle.rbac_question.specs.declared.command.Action.TheVariants.{Powers, Paths, Diff}
+use Rattle.rbac_question.specs.declared.command.Action.TheVariants.{Powers, Paths, Diff, Unused}
 use Rattle.rbac_question.specs.declared.command.Question.{Question}
 use Rattle.rbac_question.specs.declared.path_end.PathEnd.{PathEnd}
 use Rattle.rbac_rules.specs.Effective.{RuleView, AreEffective}
@@ -40,9 +40,12 @@ use Rattle.rbac_index.specs.WhoCan.{AreListedHolders}
 use Rattle.rbac_near.specs.Near.{AreNear, RequestView}
 use Rattle.rbac_near.specs.NearLines.{near_line}
 use Rattle.rbac_near.specs.declared.near.Near.{Near}
+use Rattle.rbac_use.specs.Unused.{AreUnused}
+use Rattle.rbac_use.specs.UnusedTexts.{unused_line}
+use Rattle.rbac_use.specs.declared.unused.Unused.{Unused as UnusedPart}
 use Rattle.rbac_cli.specs.HolderLines.{AreHolderLines, joined_lines}
 use Rattle.rbac_cli.specs.declared.exports.Exports.{Exports}
-use Rattle.rbac_cli.specs.declared.exports.Exports.TheVariants.{Single, Pair}
+use Rattle.rbac_cli.specs.declared.exports.Exports.TheVariants.{Single, Pair, Used}
 use Rattle.rbac_cli.specs.MatrixPage.{AreListedRows, matrix_text}
 use Rattle.rbac_cli.specs.Meant.{IsMeant, IsTargetMeant, IsScopeMeant, access_meant}
 use Rattle.rbac_cli.specs.Meant.{IsOutside, request_meant, requested_meant}
@@ -166,6 +169,15 @@ abbrev pub changes_status : List ChangeView → Status
 changes_status [] = Zero
 changes_status (x ∷ xs) = One
 
+-- a line for each unused part, in order
+abbrev pub unused_text : PolicyView → List UnusedPart → Text
+unused_text p xs = flat_map (unused_line p) xs
+
+-- the status of `unused`: 1 if anything is unused, otherwise 0
+abbrev pub unused_status : List UnusedPart → Status
+unused_status [] = Zero
+unused_status (x ∷ xs) = One
+
 -- the text and the status that an action means over what was loaded: `can-i` answers `yes` and 0,
 -- or `no` and 1 (kubectl auth can-i); `who-can` answers a line for each holder, and 0, or with
 -- `--indirect` a line for each node from which the given steps, or none, lead to one that allows
@@ -177,7 +189,8 @@ changes_status (x ∷ xs) = One
 -- `paths` a line for each node that the principal comes to by the given steps, and 0, or with
 -- `--to` a line for each step of the one path to TO, and 0, or nothing and 1 if no path leads there
 -- (own); `diff` a line for each change from the first policy to the second, and 1 if there is one,
--- otherwise 0 (own)
+-- otherwise 0 (own); `unused` a line for each part of a binding that no request of the log used, and
+-- 1 if there is one, otherwise 0 (own)
 abbrev pub Answers : Exports → Action → List ℕ → Status → Type 0
 Answers (Single l) (CanI who options q) text status =
     (IsAllowed l.policy.held l.catalogue.entries who q
@@ -226,4 +239,7 @@ Answers (Single l) (Paths who steps to) text status =
 Answers (Pair before after) (Diff n change) text status =
     (xs : List ChangeView) × AreChanges before after xs
     × (text ≡ changes_text xs) × (status ≡ changes_status xs)
+Answers (Used l log) (Unused skip_system) text status =
+    (xs : List UnusedPart) × AreUnused l.policy log skip_system xs
+    × (text ≡ unused_text l.policy xs) × (status ≡ unused_status xs)
 Answers e action text status = ⊥

@@ -1,6 +1,7 @@
 //! The answer of each action.
 
-ghost use Rattle.std.specs.Prelude.{◌≡◌, false};
+ghost use Rattle.std.specs.Prelude.{◌≡◌, Bool, false};
+ghost use Rattle.rbac_question.specs.declared.command.Action.TheVariants.{Unused};
 ghost use Rattle.rbac_cli.specs.Exports.{IsForAction};
 ghost use Rattle.rbac_cli.specs.Printing.{EndsPrinting};
 
@@ -16,6 +17,7 @@ use crate::powers::print_powers;
 use crate::rules::print_rules;
 use crate::stop::Stop;
 use crate::universe::print_universe;
+use crate::unused::print_unused;
 use crate::ways::print_ways;
 use crate::who_can::print_holders;
 use rbac_question::Action;
@@ -25,7 +27,7 @@ use std::io::Write;
 /// Prints the answer of an action over what was loaded.
 pub(crate) fn print_answer<W: Write + Drop>(
     alloc: Global,
-    exports: &Exports,
+    exports: &Exports<'_>,
     action: &Action,
     output: &mut Output<'_, W>,
 ) -> Result<Status, Stop>
@@ -36,6 +38,9 @@ pub(crate) fn print_answer<W: Write + Drop>(
     let export = match exports {
         Exports::Single(export) => export,
         Exports::Pair(before, after) => return print_changes(alloc, before, after, output),
+        Exports::Used(export, lent) => {
+            return print_unused(alloc, export, lent.log(), skips_system(action), output);
+        }
     };
     match action {
         Action::CanI {
@@ -71,6 +76,16 @@ pub(crate) fn print_answer<W: Write + Drop>(
             steps,
             to,
         } => print_paths(alloc, export, principal, steps.as_slice(), to, output),
-        Action::Diff { .. } => unreachable!(),
+        Action::Diff { .. } | Action::Unused { .. } => unreachable!(),
+    }
+}
+
+// Whether `unused` leaves out the bindings whose names begin with `system:`.
+fn skips_system(action: &Action) -> bool
+    ensures { (skip_system : Bool) → action.now ≡ Unused skip_system → result ≡ skip_system }
+{
+    match action {
+        Action::Unused { skip_system } => *skip_system,
+        _ => false,
     }
 }

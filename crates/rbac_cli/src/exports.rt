@@ -1,7 +1,8 @@
 //! What the inputs of a command give.
 
 ghost use Rattle.std.specs.Prelude.{◌≡◌, ◌≢◌, ◌<◌, ◌^◌, ◌+◌, ◌⊎◌, IfOk, IfErr, IfSome, IsOkAnd};
-ghost use Rattle.std.specs.Prelude.{None, Some, length};
+ghost use Rattle.std.specs.Prelude.{List, None, Some, length};
+ghost use Rattle.rbac_diff.specs.Requests.{RequestView};
 ghost use Rattle.rbac_manifest.specs.Changed.{IsResolved, changed_objects};
 ghost use Rattle.rbac_manifest.specs.Load.{IsLoaded, HasFault, HasTooManyGrants, document_fault};
 ghost use Rattle.rbac_manifest.specs.declared.fault.Cause.TheVariants.{NoMemory};
@@ -18,37 +19,68 @@ use rbac_manifest::{
 use rbac_model::{Object, Policy};
 use rbac_question::{Action, Change};
 use rbac_streams::Input;
+use rbac_use::Log;
 use std::alloc::Global;
+use std::marker::Model;
+
+/// The requests of the logs, which the caller of a run keeps.
+#[derive(Drop)]
+pub(crate) struct LentLog<'l> {
+    log: &'l Log,
+}
+
+impl<'l> Model for LentLog<'l> {
+    ghost use Rattle.std.specs.Prelude.{List};
+    ghost use Rattle.rbac_diff.specs.Requests.{RequestView};
+
+    ghost Value = { List RequestView };
+
+    ghost view = { λ l. l.log.now };
+}
+
+impl<'l> LentLog<'l> {
+    /// The log.
+    pub(crate) fn log(&self) -> &'l Log
+        ensures { result.now ≡ self.now }
+    {
+        self.log
+    }
+}
 
 /// What an action is answered over.
-pub(crate) enum Exports {
+pub(crate) enum Exports<'l> {
     /// One export.
     Single(Export),
     /// The policy before a change, and the one after it.
     Pair(Policy, Policy),
+    /// One export, and the requests of the logs.
+    Used(Export, LentLog<'l>),
 }
 
-impl Drop for Exports {
+impl Drop for Exports<'_> {
     fn drop(self) {
         match self {
             Self::Single(_) => {}
             Self::Pair(_, _) => {}
+            Self::Used(_, _) => {}
         }
     }
 }
 
 /// Loads the inputs of an action: for `diff` the side before the change and then the side after it;
-/// otherwise all inputs together.
-pub(crate) fn exports_from(
+/// otherwise all inputs together. Only `unused` is answered over the requests of the log, too.
+pub(crate) fn exports_from<'l>(
     alloc: Global,
     action: &Action,
     inputs: &[Input],
-) -> Result<Exports, RunFault>
-    ensures ok { IfOk result (AreLoaded action.now inputs.now) }
+    log: &'l Log,
+) -> Result<Exports<'l>, RunFault>
+    ensures ok { IfOk result (AreLoaded action.now inputs.now log.now) }
     ensures fault { IfErr result (FailsToLoad (AreInputsRefused action.now inputs.now)) }
 {
     match action {
         Action::Diff { before, change } => pair_from(alloc, *before, *change, inputs),
+        Action::Unused { .. } => Ok(Exports::Used(export_from(alloc, inputs)?, LentLog { log })),
         _ => Ok(Exports::Single(export_from(alloc, inputs)?)),
     }
 }
@@ -61,13 +93,14 @@ fn export_from(alloc: Global, inputs: &[Input]) -> Result<Export, RunFault>
 }
 
 // Loads both sides of a change. The first `before` inputs are the side before.
-fn pair_from(
+fn pair_from<'l>(
     alloc: Global,
     before: usize,
     change: Change,
     inputs: &[Input],
-) -> Result<Exports, RunFault>
-    ensures ok { IfOk result (AreLoaded (Diff before change) inputs.now) }
+) -> Result<Exports<'l>, RunFault>
+    ensures ok { (log : List RequestView)
+        → IfOk result (AreLoaded (Diff before change) inputs.now log) }
     ensures fault { IfErr result (FailsToLoad (AreInputsRefused (Diff before change) inputs.now)) }
 {
     let (first, others) = inputs.split_at(before.min(inputs.len()));

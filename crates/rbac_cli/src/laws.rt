@@ -17,7 +17,7 @@ ghost use Rattle.rbac_question.specs.declared.command.Action.TheVariants.{Univer
 ghost use Rattle.rbac_question.specs.declared.command.Change.{Change};
 ghost use Rattle.rbac_question.specs.declared.command.Question.{Question};
 ghost use Rattle.rbac_question.specs.declared.path_end.PathEnd.{PathEnd};
-ghost use Rattle.rbac_diff.specs.Requests.{AllowsNoMore};
+ghost use Rattle.rbac_diff.specs.Requests.{AllowsNoMore, RequestView};
 ghost use Rattle.rbac_cli.specs.Agreement.{HasNoPowerLine, LinesAgree, PathAgrees};
 ghost use Rattle.rbac_cli.specs.Exports.{AreLoaded};
 ghost use Rattle.rbac_cli.specs.Out.{Answers};
@@ -25,7 +25,7 @@ ghost use Rattle.rbac_cli.specs.PlusLines.{HasPlusLine};
 ghost use Rattle.rbac_cli.specs.TakenBack.{HaveOneMatrix};
 ghost use Rattle.rbac_cli.specs.declared.exports.Exports.TheVariants.{Pair, Single};
 ghost use Rattle.rbac_question.specs.declared.command.Command.{Command};
-ghost use Rattle.rbac_cli.specs.Ends.{Ends, IsUnstopped};
+ghost use Rattle.rbac_cli.specs.Ends.{Ends, HaveSameRequests, IsUnstopped};
 ghost use Rattle.rbac_cli.specs.declared.exports.Exports.{Exports};
 ghost use Rattle.rbac_cli.specs.declared.outcome.Status.{Status};
 ghost use Rattle.rbac_cli.specs.declared.outcome.RunFault.{RunFault};
@@ -41,6 +41,7 @@ use rbac_paths::{
     ways_are_one,
 };
 use rbac_universe::universes_have_no_fault;
+use rbac_use::unused_lines_are_one;
 use std::io::Write;
 
 /// Over what was loaded, an action means at most one text and one status: whoever runs a command
@@ -54,17 +55,19 @@ pub fn answers_are_one()
     paths_are_one();
     one_path_is_one();
     ways_are_one();
+    unused_lines_are_one();
 }
 
-/// Two runs of one command over the same inputs end alike, and their writers take the same text, if
-/// neither runs out of memory or fails to write: both give the same answer with the same status, or
+/// Two runs of one command over the same inputs, and over logs with the same requests, end alike,
+/// and their writers take the same text, if neither runs out of memory or fails to write: both give the same answer with the same status, or
 /// the same refusal and no text. So an answer and a refusal exclude each other (own).
 pub fn runs_are_one<V: Write, W: Write>()
     ensures { (start end : SinkView V) (old new : SinkView W) (command : Command)
-        (inputs : List (List ℕ)) (ended other : Result Status RunFault)
+        (inputs : List (List ℕ)) (log logged : List RequestView)
+        (ended other : Result Status RunFault) → HaveSameRequests log logged
         → IsUnstopped ended → IsUnstopped other
-        → Ends (Took V.contents start end) command inputs ended
-        → Ends (Took W.contents old new) command inputs other
+        → Ends (Took V.contents start end) command inputs log ended
+        → Ends (Took W.contents old new) command inputs logged other
         → (ended ≡ other)
         × ((text : List ℕ) × Took V.contents start end text × Took W.contents old new text) }
 {
@@ -78,14 +81,16 @@ pub fn runs_are_one<V: Write, W: Write>()
     paths_are_one();
     one_path_is_one();
     ways_are_one();
+    unused_lines_are_one();
 }
 
 /// No line of a `diff` begins with `+` exactly if the side before allows every request that the
 /// side after allows: of every user, in every namespace, with every verb, on every proper target
 /// (own).
 pub fn plus_lines_tell_all()
-    ensures { (n : ℕ) (change : Change) (inputs : List (List ℕ)) (before after : PolicyView)
-        (text : List ℕ) (status : Status) → AreLoaded (Diff n change) inputs (Pair before after)
+    ensures { (n : ℕ) (change : Change) (inputs : List (List ℕ)) (log : List RequestView)
+        (before after : PolicyView) (text : List ℕ) (status : Status)
+        → AreLoaded (Diff n change) inputs log (Pair before after)
         → Answers (Pair before after) (Diff n change) text status
         → (¬ HasPlusLine text) ↔ AllowsNoMore before after }
 {

@@ -24,6 +24,7 @@ mod rules;
 mod running;
 mod stop;
 mod universe;
+mod unused;
 mod ways;
 mod who_can;
 
@@ -33,6 +34,7 @@ pub use laws::{
 };
 pub use outcome::{RunFault, Status};
 pub use rbac_command::{UsageFault, command_of};
+pub use rbac_log::{LineFault, LogFault, read_log, read_log_file, read_log_slice};
 pub use rbac_manifest::{At, Cause, LoadFault};
 pub use rbac_question::{
     Action, Asked, AskedFor, Change, Command, HolderOptions, MatrixOptions, Question,
@@ -42,4 +44,5 @@ pub use rbac_streams::{
     Failed, Input, InputFault, Sink, Source, read_file, read_input, read_slice,
 };
 pub use rbac_universe::UniverseFault;
+pub use rbac_use::Log;
 pub use running::{run, run_into};

@@ -8,9 +8,10 @@ use std::fmt;
 /// The exit status of a run that gave its answer.
 #[derive(Clone, Copy, Debug, PartialEq, Eq)]
 pub enum Status {
-    /// 0: `yes`, no findings, no changes, a path to TO, or the answer of any other command.
+    /// 0: `yes`, no findings, no changes, nothing unused, a path to TO, or the answer of any other
+    /// command.
     Zero,
-    /// 1: `no`, findings, changes, or no path to TO.
+    /// 1: `no`, findings, changes, something unused, or no path to TO.
     One,
 }
 

@@ -13,6 +13,7 @@ use crate::output::Output;
 use crate::stop::Stop;
 use rbac_question::{Action, Command};
 use rbac_streams::{Input, Page, Sink};
+use rbac_use::Log;
 use std::alloc::Global;
 use std::io::Write;
 
@@ -32,6 +33,9 @@ use std::io::Write;
 /// For a `diff` the first inputs are the side before a change. The others are the side after it, or
 /// the objects that the change takes away, and then those that it puts over.
 ///
+/// For `unused` it writes exactly one line for each part of a binding that no request of the log
+/// used. The log has the requests of the command's logs; no other command depends on it.
+///
 /// Refuses inputs that [`load`] refuses, for a matrix those whose lists make no universe, and for
 /// `universe` those whose lists have more resources than a universe may have targets; nothing is
 /// written then. If it runs out of memory or a write fails, what was written is a prefix of the
@@ -41,14 +45,15 @@ pub fn run<W: Write + Drop>(
     alloc: Global,
     command: &Command,
     inputs: &[Input],
+    log: &Log,
     sink: &mut Sink<W>,
 ) -> Result<Status, RunFault>
     requires { sink.old.has_failed ≡ false }
-    ensures ends { Ends (Took W.contents sink.old sink.new) command.now inputs.now result }
+    ensures ends { Ends (Took W.contents sink.old sink.new) command.now inputs.now log.now result }
     ensures failed { sink.new.has_failed ≡ is_write_fault result }
 {
     let mut page = Page::start(alloc, sink);
-    let exports = exports_from(alloc, &command.action, inputs)?;
+    let exports = exports_from(alloc, &command.action, inputs, log)?;
     let mut output = Output {
         sink,
         page: &mut page,
@@ -65,21 +70,22 @@ pub fn run_into(
     alloc: Global,
     command: &Command,
     inputs: &[Input],
+    log: &Log,
     sink: &mut Sink<Vec<u8>>,
 ) -> Result<Status, RunFault>
     requires { sink.old.has_failed ≡ false }
     ensures ends { Ends
         (λ bytes. sink.new.writer.items
-        ≡ sink.old.writer.items ++ bytes) command.now inputs.now result }
+        ≡ sink.old.writer.items ++ bytes) command.now inputs.now log.now result }
     ensures failed { sink.new.has_failed ≡ is_write_fault result }
 {
-    run(alloc, command, inputs, sink)
+    run(alloc, command, inputs, log, sink)
 }
 
 // Writes the answer of an action over what was loaded, starting with an empty page.
 fn write_answer<W: Write + Drop>(
     alloc: Global,
-    exports: &Exports,
+    exports: &Exports<'_>,
     action: &Action,
     output: &mut Output<'_, W>,
 ) -> Result<Status, RunFault>

@@ -6,30 +6,32 @@ use Rattle.std.proofs.lemmas.Slice.Eq.{bytes_eq-Decides}
 use Rattle.clap.specs.Words.{Row, Text, first_of}
 use Rattle.rbac_question.specs.Lines.{CanIParts, RulesParts, MatrixParts, LintParts, MeansCanI, MeansRules, MeansMatrix, MeansLint, MeansDiff, AcceptsCanI, RefusesCanI, RefusesRules, RefusesMatrix, RefusesLint, RefusesDiff, HasBadToken, IsMarkGiven}
 use Rattle.rbac_question.specs.PathsLines.{PathsParts, AcceptsPaths, MeansPaths, RefusesPaths}
+use Rattle.rbac_question.specs.UnusedLines.{UnusedParts, MeansUnused, RefusesUnused}
 use Rattle.rbac_question.specs.WhoCanLines.{WhoCanParts, MeansWhoCan, AcceptsWhoCan, RefusesWhoCan}
 use Rattle.rbac_question.specs.declared.command.Action.{Action}
-use Rattle.rbac_question.specs.declared.command.Action.TheVariants.{CanI, WhoCan, WaysTo, Rules, Matrix, Universe, Lint, Powers, Paths, Diff}
+use Rattle.rbac_question.specs.declared.command.Action.TheVariants.{CanI, WhoCan, WaysTo, Rules, Matrix, Universe, Lint, Unused, Powers, Paths, Diff}
 use Rattle.rbac_question.specs.declared.fault.QuestionFault.{QuestionFault}
-use Rattle.rbac_question.specs.declared.fault.QuestionFault.TheVariants.{EmptyWord, UrlSubresource, BadToken, BadPrincipal, BadCode, BadChange, BadStep, BadIndirect, BadEnd, NoMemory}
+use Rattle.rbac_question.specs.declared.fault.QuestionFault.TheVariants.{EmptyWord, UrlSubresource, BadToken, BadPrincipal, BadCode, BadChange, BadStep, BadIndirect, BadEnd, BadLogs, NoMemory}
 use Rattle.rbac_question.specs.declared.line.DiffLine.{DiffLine}
 use Rattle.rbac_command.specs.MatrixOptions.{matrix_options_in}
-use Rattle.rbac_command.specs.Meaning.{parts_in, who_can_in, rules_line_in, paths_line_in, lint_in, diff_in, is_known, DoesAction, IsNumberAt, RefusesAction}
+use Rattle.rbac_command.specs.Meaning.{parts_in, who_can_in, rules_line_in, paths_line_in, lint_in, diff_in, unused_in, is_known, DoesAction, IsNumberAt, RefusesAction}
 
-first_of_nine : (a b c d e f g h i : Bool) → a || (b || (c || (d || (e || (f || (g || (h || i))))))) ≡ true
-    → b ≡ false → c ≡ false → d ≡ false → e ≡ false → f ≡ false → g ≡ false → h ≡ false → i ≡ false → a ≡ true
-first_of_nine true b c d e f g h i j k l m n o p q r = refl
-first_of_nine false true c d e f g h i j k l m n o p q r = cc
-first_of_nine false false true d e f g h i j k l m n o p q r = cc
-first_of_nine false false false true e f g h i j k l m n o p q r = cc
-first_of_nine false false false false true f g h i j k l m n o p q r = cc
-first_of_nine false false false false false true g h i j k l m n o p q r = cc
-first_of_nine false false false false false false true h i j k l m n o p q r = cc
-first_of_nine false false false false false false false true i j k l m n o p q r = cc
-first_of_nine false false false false false false false false true j k l m n o p q r = cc
-first_of_nine false false false false false false false false false j k l m n o p q r = cc
+first_of_ten : (a b c d e f g h i j : Bool) → a || (b || (c || (d || (e || (f || (g || (h || (i || j)))))))) ≡ true
+    → b ≡ false → c ≡ false → d ≡ false → e ≡ false → f ≡ false → g ≡ false → h ≡ false → i ≡ false → j ≡ false → a ≡ true
+first_of_ten true b c d e f g h i j k l m n o p q r s t = refl
+first_of_ten false true c d e f g h i j k l m n o p q r s t = cc
+first_of_ten false false true d e f g h i j k l m n o p q r s t = cc
+first_of_ten false false false true e f g h i j k l m n o p q r s t = cc
+first_of_ten false false false false true f g h i j k l m n o p q r s t = cc
+first_of_ten false false false false false true g h i j k l m n o p q r s t = cc
+first_of_ten false false false false false false true h i j k l m n o p q r s t = cc
+first_of_ten false false false false false false false true i j k l m n o p q r s t = cc
+first_of_ten false false false false false false false false true j k l m n o p q r s t = cc
+first_of_ten false false false false false false false false false true k l m n o p q r s t = cc
+first_of_ten false false false false false false false false false false k l m n o p q r s t = cc
 
 -- a known name that is none of the others is `can-i`
-pub the_other : (name : Text) (is_matrix is_who_can is_rules is_universe is_lint is_powers is_paths is_diff : Bool) → is_known name ≡ true
+pub the_other : (name : Text) (is_matrix is_who_can is_rules is_universe is_lint is_powers is_paths is_diff is_unused : Bool) → is_known name ≡ true
     → is_matrix ≡ bytes_eq name (codes "matrix") → is_matrix ≡ false
     → is_who_can ≡ bytes_eq name (codes "who-can") → is_who_can ≡ false
     → is_rules ≡ bytes_eq name (codes "rules") → is_rules ≡ false
@@ -38,13 +40,14 @@ pub the_other : (name : Text) (is_matrix is_who_can is_rules is_universe is_lint
     → is_powers ≡ bytes_eq name (codes "powers") → is_powers ≡ false
     → is_paths ≡ bytes_eq name (codes "paths") → is_paths ≡ false
     → is_diff ≡ bytes_eq name (codes "diff") → is_diff ≡ false
+    → is_unused ≡ bytes_eq name (codes "unused") → is_unused ≡ false
     → name ≡ codes "can-i"
-the_other name is_matrix is_who_can is_rules is_universe is_lint is_powers is_paths is_diff known m no_matrix w no_who_can r no_rules u no_universe l no_lint p no_powers a no_paths d no_diff =
+the_other name is_matrix is_who_can is_rules is_universe is_lint is_powers is_paths is_diff is_unused known m no_matrix w no_who_can r no_rules u no_universe l no_lint p no_powers a no_paths d no_diff n no_unused =
     (bytes_eq-Decides name (codes "can-i")).0
-    (first_of_nine (bytes_eq name (codes "can-i")) (bytes_eq name (codes "who-can")) (bytes_eq name (codes "rules")) (bytes_eq name (codes "matrix"))
+    (first_of_ten (bytes_eq name (codes "can-i")) (bytes_eq name (codes "who-can")) (bytes_eq name (codes "rules")) (bytes_eq name (codes "matrix"))
     (bytes_eq name (codes "universe")) (bytes_eq name (codes "lint")) (bytes_eq name (codes "powers")) (bytes_eq name (codes "paths"))
-    (bytes_eq name (codes "diff")) known (sym w ∙ no_who_can) (sym r ∙ no_rules)
-    (sym m ∙ no_matrix) (sym u ∙ no_universe) (sym l ∙ no_lint) (sym p ∙ no_powers) (sym a ∙ no_paths) (sym d ∙ no_diff))
+    (bytes_eq name (codes "diff")) (bytes_eq name (codes "unused")) known (sym w ∙ no_who_can) (sym r ∙ no_rules)
+    (sym m ∙ no_matrix) (sym u ∙ no_universe) (sym l ∙ no_lint) (sym p ∙ no_powers) (sym a ∙ no_paths) (sym d ∙ no_diff) (sym n ∙ no_unused))
 
 as_can_i : (name : Text) (rows : List Row) (r : Result Action QuestionFault) → name ≡ codes "can-i"
     → MatchResult r (λ a. AcceptsCanI (parts_in rows) × MeansCanI (parts_in rows) a) (RefusesCanI (parts_in rows))
@@ -55,6 +58,7 @@ as_can_i name rows (Ok (WaysTo chosen question)) e h = absurd h.1
 as_can_i name rows (Ok (Rules principal scope)) e h = absurd h.1
 as_can_i name rows (Ok (Matrix options after limit)) e h = absurd h.1
 as_can_i name rows (Ok (Lint only skip_system)) e h = absurd h.1
+as_can_i name rows (Ok (Unused skip_system)) e h = absurd h.1
 as_can_i name rows (Ok Universe) e h = absurd h.1
 as_can_i name rows (Ok Powers) e h = absurd h.1
 as_can_i name rows (Ok (Paths principal chosen to)) e h = absurd h.1
@@ -68,6 +72,7 @@ as_can_i name rows (Err BadChange) e h = absurd h
 as_can_i name rows (Err BadStep) e h = absurd h
 as_can_i name rows (Err BadIndirect) e h = absurd h
 as_can_i name rows (Err BadEnd) e h = absurd h
+as_can_i name rows (Err BadLogs) e h = absurd h
 as_can_i name rows (Err NoMemory) e h = tt
 
 pub can_i_line : (name : Text) (rows : List Row) (l : CanIParts) (r : Result Action QuestionFault) → name ≡ codes "can-i" → l ≡ parts_in rows
@@ -85,6 +90,7 @@ as_who_can name rows (Ok (WaysTo chosen question)) e h = (e, h.0, h.1)
 as_who_can name rows (Ok (Rules principal scope)) e h = absurd h.1
 as_who_can name rows (Ok (Matrix options after limit)) e h = absurd h.1
 as_who_can name rows (Ok (Lint only skip_system)) e h = absurd h.1
+as_who_can name rows (Ok (Unused skip_system)) e h = absurd h.1
 as_who_can name rows (Ok Universe) e h = absurd h.1
 as_who_can name rows (Ok Powers) e h = absurd h.1
 as_who_can name rows (Ok (Paths principal chosen to)) e h = absurd h.1
@@ -98,6 +104,7 @@ as_who_can name rows (Err BadChange) e h = absurd h
 as_who_can name rows (Err BadStep) e h = inr (e, h)
 as_who_can name rows (Err BadIndirect) e h = (e, h)
 as_who_can name rows (Err BadEnd) e h = absurd h
+as_who_can name rows (Err BadLogs) e h = absurd h
 as_who_can name rows (Err NoMemory) e h = tt
 
 pub who_can_line : (name : Text) (rows : List Row) (l : WhoCanParts) (r : Result Action QuestionFault) → name ≡ codes "who-can" → l ≡ who_can_in rows
@@ -115,6 +122,7 @@ as_rules name rows (Ok (WaysTo chosen question)) e h = absurd h
 as_rules name rows (Ok (Rules principal scope)) e h = (e, h)
 as_rules name rows (Ok (Matrix options after limit)) e h = absurd h
 as_rules name rows (Ok (Lint only skip_system)) e h = absurd h
+as_rules name rows (Ok (Unused skip_system)) e h = absurd h
 as_rules name rows (Ok Universe) e h = absurd h
 as_rules name rows (Ok Powers) e h = absurd h
 as_rules name rows (Ok (Paths principal chosen to)) e h = absurd h
@@ -128,6 +136,7 @@ as_rules name rows (Err BadChange) e h = absurd h
 as_rules name rows (Err BadStep) e h = absurd h
 as_rules name rows (Err BadIndirect) e h = absurd h
 as_rules name rows (Err BadEnd) e h = absurd h
+as_rules name rows (Err BadLogs) e h = absurd h
 as_rules name rows (Err NoMemory) e h = tt
 
 pub rules_line : (name : Text) (rows : List Row) (l : RulesParts) (r : Result Action QuestionFault) → name ≡ codes "rules" → l ≡ rules_line_in rows
@@ -145,6 +154,7 @@ as_paths name rows (Ok (WaysTo chosen question)) e h = absurd h.1
 as_paths name rows (Ok (Rules principal scope)) e h = absurd h.1
 as_paths name rows (Ok (Matrix options after limit)) e h = absurd h.1
 as_paths name rows (Ok (Lint only skip_system)) e h = absurd h.1
+as_paths name rows (Ok (Unused skip_system)) e h = absurd h.1
 as_paths name rows (Ok Universe) e h = absurd h.1
 as_paths name rows (Ok Powers) e h = absurd h.1
 as_paths name rows (Ok (Paths principal chosen to)) e h = (e, h.0, h.1)
@@ -158,6 +168,7 @@ as_paths name rows (Err BadChange) e h = absurd h
 as_paths name rows (Err BadStep) e h = inl (e, h)
 as_paths name rows (Err BadIndirect) e h = absurd h
 as_paths name rows (Err BadEnd) e h = (e, h)
+as_paths name rows (Err BadLogs) e h = absurd h
 as_paths name rows (Err NoMemory) e h = tt
 
 pub paths_line : (name : Text) (rows : List Row) (l : PathsParts) (r : Result Action QuestionFault) → name ≡ codes "paths" → l ≡ paths_line_in rows
@@ -175,6 +186,7 @@ as_lint name rows (Ok (WaysTo chosen question)) e h = absurd h
 as_lint name rows (Ok (Rules principal scope)) e h = absurd h
 as_lint name rows (Ok (Matrix options after limit)) e h = absurd h
 as_lint name rows (Ok (Lint only skip_system)) e h = (e, h)
+as_lint name rows (Ok (Unused skip_system)) e h = absurd h
 as_lint name rows (Ok Universe) e h = absurd h
 as_lint name rows (Ok Powers) e h = absurd h
 as_lint name rows (Ok (Paths principal chosen to)) e h = absurd h
@@ -188,6 +200,7 @@ as_lint name rows (Err BadChange) e h = absurd h
 as_lint name rows (Err BadStep) e h = absurd h
 as_lint name rows (Err BadIndirect) e h = absurd h
 as_lint name rows (Err BadEnd) e h = absurd h
+as_lint name rows (Err BadLogs) e h = absurd h
 as_lint name rows (Err NoMemory) e h = tt
 
 pub lint_line : (name : Text) (rows : List Row) (l : LintParts) (r : Result Action QuestionFault) → name ≡ codes "lint" → l ≡ lint_in rows
@@ -207,6 +220,7 @@ matrix_line name rows l (Ok (Rules principal scope)) e v f n h = absurd h
 matrix_line name rows l (Ok (Matrix options after limit)) e v f n h =
     (e, h.0 ∙ v, subst (λ (t : _). IsMarkGiven t after) f h.1, subst (λ (m : _). IsNumberAt (codes "limit") rows m) (sym h.2) n)
 matrix_line name rows l (Ok (Lint only skip_system)) e v f n h = absurd h
+matrix_line name rows l (Ok (Unused skip_system)) e v f n h = absurd h
 matrix_line name rows l (Ok Universe) e v f n h = absurd h
 matrix_line name rows l (Ok Powers) e v f n h = absurd h
 matrix_line name rows l (Ok (Paths principal chosen to)) e v f n h = absurd h
@@ -220,6 +234,7 @@ matrix_line name rows l (Err BadChange) e v f n h = absurd h
 matrix_line name rows l (Err BadStep) e v f n h = absurd h
 matrix_line name rows l (Err BadIndirect) e v f n h = absurd h
 matrix_line name rows l (Err BadEnd) e v f n h = absurd h
+matrix_line name rows l (Err BadLogs) e v f n h = absurd h
 matrix_line name rows l (Err NoMemory) e v f n h = tt
 
 as_diff : (name : Text) (rows : List Row) (r : Result Action QuestionFault) → name ≡ codes "diff"
@@ -234,6 +249,7 @@ as_diff name rows (Ok Universe) e h = absurd h
 as_diff name rows (Ok Powers) e h = absurd h
 as_diff name rows (Ok (Paths principal chosen to)) e h = absurd h
 as_diff name rows (Ok (Lint only skip_system)) e h = absurd h
+as_diff name rows (Ok (Unused skip_system)) e h = absurd h
 as_diff name rows (Ok (Diff before change)) e h = (e, h)
 as_diff name rows (Err EmptyWord) e h = absurd h
 as_diff name rows (Err UrlSubresource) e h = absurd h
@@ -244,6 +260,7 @@ as_diff name rows (Err BadChange) e h = (e, h)
 as_diff name rows (Err BadStep) e h = absurd h
 as_diff name rows (Err BadIndirect) e h = absurd h
 as_diff name rows (Err BadEnd) e h = absurd h
+as_diff name rows (Err BadLogs) e h = absurd h
 as_diff name rows (Err NoMemory) e h = tt
 
 pub diff_line : (name : Text) (rows : List Row) (l : DiffLine) (r : Result Action QuestionFault) → name ≡ codes "diff" → l ≡ diff_in rows
@@ -251,3 +268,35 @@ pub diff_line : (name : Text) (rows : List Row) (l : DiffLine) (r : Result Actio
     → MatchResult r (DoesAction name rows) (RefusesAction name rows)
 diff_line name rows l r e same h =
     as_diff name rows r e (subst (λ (parts : DiffLine). MatchResult r (MeansDiff parts) (RefusesDiff parts)) same h)
+
+as_unused : (name : Text) (rows : List Row) (r : Result Action QuestionFault) → name ≡ codes "unused"
+    → MatchResult r (MeansUnused (unused_in rows)) (RefusesUnused (unused_in rows))
+    → MatchResult r (DoesAction name rows) (RefusesAction name rows)
+as_unused name rows (Ok (CanI principal options question)) e h = absurd h
+as_unused name rows (Ok (WhoCan options question)) e h = absurd h
+as_unused name rows (Ok (WaysTo chosen question)) e h = absurd h
+as_unused name rows (Ok (Rules principal scope)) e h = absurd h
+as_unused name rows (Ok (Matrix options after limit)) e h = absurd h
+as_unused name rows (Ok Universe) e h = absurd h
+as_unused name rows (Ok Powers) e h = absurd h
+as_unused name rows (Ok (Paths principal chosen to)) e h = absurd h
+as_unused name rows (Ok (Lint only skip_system)) e h = absurd h
+as_unused name rows (Ok (Unused skip_system)) e h = (e, h)
+as_unused name rows (Ok (Diff before change)) e h = absurd h
+as_unused name rows (Err EmptyWord) e h = absurd h
+as_unused name rows (Err UrlSubresource) e h = absurd h
+as_unused name rows (Err BadToken) e h = absurd h
+as_unused name rows (Err BadPrincipal) e h = absurd h
+as_unused name rows (Err BadCode) e h = absurd h
+as_unused name rows (Err BadChange) e h = absurd h
+as_unused name rows (Err BadStep) e h = absurd h
+as_unused name rows (Err BadIndirect) e h = absurd h
+as_unused name rows (Err BadEnd) e h = absurd h
+as_unused name rows (Err BadLogs) e h = (e, h)
+as_unused name rows (Err NoMemory) e h = tt
+
+pub unused_line : (name : Text) (rows : List Row) (l : UnusedParts) (r : Result Action QuestionFault) → name ≡ codes "unused" → l ≡ unused_in rows
+    → MatchResult r (MeansUnused l) (RefusesUnused l)
+    → MatchResult r (DoesAction name rows) (RefusesAction name rows)
+unused_line name rows l r e same h =
+    as_unused name rows r e (subst (λ (parts : UnusedParts). MatchResult r (MeansUnused parts) (RefusesUnused parts)) same h)

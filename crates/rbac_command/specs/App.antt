@@ -107,6 +107,15 @@ indirect_rule = flag_rule (codes "indirect")
 abbrev pub skip_system_rule : Rule
 skip_system_rule = flag_rule (codes "skip-system")
 
+-- `--log LOG`, which must be given, and may be given several times
+abbrev pub log_rule : Rule
+log_rule = record (new_rule (codes "log")) {
+  long = Some (codes "log");
+  value_names = 1;
+  required = true;
+  action = Some Append;
+}
+
 -- [FILE]..
 abbrev pub files_rule : Rule
 files_rule = record (new_rule (codes "files")) { value_names = 1; action = Some Append }
@@ -210,6 +219,12 @@ diff_app =
     (with_rule (with_rule (new_app (codes "diff")) before_files_rule) after_files_rule)
     without_files_rule) with_files_rule
 
+-- unused --log LOG [--log LOG].. [--skip-system] [FILE]..
+abbrev pub unused_app : App
+unused_app =
+    with_rule (with_rule
+    (with_rule (new_app (codes "unused")) log_rule) skip_system_rule) files_rule
+
 -- the program: it has a version, needs a subcommand, and has no subcommand `help`
 abbrev pub as_program : App → App
 as_program a = record a {
@@ -227,7 +242,8 @@ bare_app = as_program (new_app (codes "rbacaudit"))
 -- the whole command line
 unfoldable pub rbac_app : App
 rbac_app =
-    with_subcommand (with_subcommand (with_subcommand (with_subcommand
+    with_subcommand (with_subcommand (with_subcommand (with_subcommand (with_subcommand
     (with_subcommand (with_subcommand (with_subcommand
     (with_subcommand (with_subcommand bare_app can_i_app.top) who_can_app.top) rules_app.top)
-    matrix_app.top) universe_app.top) lint_app.top) powers_app.top) paths_app.top) diff_app.top
+    matrix_app.top) universe_app.top) lint_app.top) powers_app.top) paths_app.top) diff_app.top)
+    unused_app.top

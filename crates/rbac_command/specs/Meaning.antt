@@ -11,10 +11,11 @@ use Rattle.rbac_question.specs.Lines.{MeansCanI, MeansRules, MeansLint, AcceptsC
 use Rattle.rbac_question.specs.Lines.{HasBadToken, HasBadPrincipal, HasBadCode, HasBadChange}
 use Rattle.rbac_question.specs.Lines.{IsMarkGiven, MeansDiff}
 use Rattle.rbac_question.specs.PathsLines.{PathsParts, AcceptsPaths, MeansPaths, RefusesPaths}
+use Rattle.rbac_question.specs.UnusedLines.{UnusedParts, HasBadLogs, MeansUnused}
 use Rattle.rbac_question.specs.WhoCanLines.{WhoCanParts, MeansWhoCan, AcceptsWhoCan, RefusesWhoCan}
 use Rattle.rbac_question.specs.declared.command.Action.{Action}
 use Rattle.rbac_question.specs.declared.command.Action.TheVariants.{CanI, WhoCan, WaysTo, Rules}
-use Rattle.rbac_question.specs.declared.command.Action.TheVariants.{Matrix, Universe, Lint}
+use Rattle.rbac_question.specs.declared.command.Action.TheVariants.{Matrix, Universe, Lint, Unused}
 use Rattle.rbac_question.specs.declared.command.Action.TheVariants.{Powers, Paths, Diff}
 use Rattle.rbac_question.specs.declared.command.Command.{Command}
 use Rattle.rbac_question.specs.declared.command.VerdictOptions.{VerdictOptions}
@@ -40,6 +41,10 @@ abbrev pub files_in : Text → List Row → List Text
 files_in name rows = if bytes_eq name (codes "diff")
     then diff_files_in rows
     else texts_at (codes "files") rows
+
+-- the logs of the subcommand of that name, in order; only `unused` has any
+abbrev pub logs_in : Text → List Row → List Text
+logs_in name rows = if bytes_eq name (codes "unused") then texts_at (codes "log") rows else []
 
 -- the parts that ask a question
 abbrev pub question_in : List Row → QuestionParts
@@ -120,6 +125,14 @@ diff_in rows = record {
   with_files = length (texts_at (codes "with") rows);
 }
 
+-- the parts of an `unused` line
+abbrev pub unused_in : List Row → UnusedParts
+unused_in rows = record {
+  skip_system = has_flag (codes "skip-system") rows;
+  logs = texts_at (codes "log") rows;
+  files = length (texts_at (codes "files") rows);
+}
+
 -- the text is a 32-bit number: decimal digits, with an optional plus sign before them
 abbrev pub IsNumberText : Text → Type 0
 IsNumberText text = IsNumeral 10 (without_leading_plus text)
@@ -147,7 +160,8 @@ is_known name = bytes_eq name (codes "can-i")
     || (bytes_eq name (codes "universe")
     || (bytes_eq name (codes "lint")
     || (bytes_eq name (codes "powers")
-    || (bytes_eq name (codes "paths") || bytes_eq name (codes "diff"))))))))
+    || (bytes_eq name (codes "paths")
+    || (bytes_eq name (codes "diff") || bytes_eq name (codes "unused")))))))))
 
 -- what the subcommand of that name does, according to its matches
 abbrev pub DoesAction : Text → List Row → Action → Type 0
@@ -168,6 +182,8 @@ DoesAction name rows (Matrix options after limit) =
 DoesAction name rows Universe = name ≡ codes "universe"
 DoesAction name rows (Lint only skip_system) =
     (name ≡ codes "lint") × MeansLint (lint_in rows) (Lint only skip_system)
+DoesAction name rows (Unused skip_system) =
+    (name ≡ codes "unused") × MeansUnused (unused_in rows) (Unused skip_system)
 DoesAction name rows Powers = name ≡ codes "powers"
 DoesAction name rows (Paths principal chosen to) =
     (name ≡ codes "paths") × AcceptsPaths (paths_line_in rows)
@@ -179,6 +195,7 @@ DoesAction name rows (Diff before change) =
 pub record MeansRows (name : Text) (rows : List Row) (c : Command) : Type 0 where
   pub action : DoesAction name rows c.action
   pub files : map string_bytes c.files.items ≡ files_in name rows
+  pub logs : map string_bytes c.logs.items ≡ logs_in name rows
 
 -- the command is what the subcommand that was found means
 abbrev pub Means : Option (Text × List Row) → Command → Type 0
@@ -188,7 +205,7 @@ Means (Some p) c = MeansRows p.0 p.1 c
 -- ---- refusals
 
 -- the refusal of a subcommand's matches: U4 of `matrix`, U5 of `rules`, U6 of `lint`, U7 of `diff`,
--- U5, U8 and U10 of `paths`, U2 and U3 of `can-i`, U2, U3, U8 and U9 of `who-can`, and none of
+-- U11 of `unused`, U5, U8 and U10 of `paths`, U2 and U3 of `can-i`, U2, U3, U8 and U9 of `who-can`, and none of
 -- `universe` and `powers`; out of memory may come at any time
 abbrev pub RefusesAction : Text → List Row → QuestionFault → Type 0
 RefusesAction name rows question.NoMemory = Unit {0}
@@ -205,6 +222,7 @@ RefusesAction name rows question.BadIndirect = (name ≡ codes "who-can")
     × RefusesWhoCan (who_can_in rows) question.BadIndirect
 RefusesAction name rows question.BadEnd = (name ≡ codes "paths")
     × RefusesPaths (paths_line_in rows) question.BadEnd
+RefusesAction name rows question.BadLogs = (name ≡ codes "unused") × HasBadLogs (unused_in rows)
 RefusesAction name rows question.BadChange = (name ≡ codes "diff") × HasBadChange (diff_in rows)
 RefusesAction name rows e = ((name ≡ codes "can-i") × RefusesCanI (parts_in rows) e)
     ⊎ ((name ≡ codes "who-can") × RefusesWhoCan (who_can_in rows) e)

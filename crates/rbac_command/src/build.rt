@@ -13,12 +13,13 @@ ghost use Rattle.rbac_command.specs.App.{rules_app, matrix_app, universe_app, li
 ghost use Rattle.rbac_command.specs.App.{rbac_app, before_files_rule, after_files_rule, diff_app};
 ghost use Rattle.rbac_command.specs.App.{powers_app, paths_app, steps_rule, to_rule, with_who};
 ghost use Rattle.rbac_command.specs.App.{without_files_rule, with_files_rule, skip_system_rule};
+ghost use Rattle.rbac_command.specs.App.{log_rule, unused_app};
 ghost use Rattle.rbac_command.specs.Flags.{flag_rule};
 
 use crate::help::{
     ALL, CAN_I_MORE, DIFF_MORE, INDIRECT, LINT_MORE, MATRIX_MORE, MORE, NAMESPACE, PATHS_MORE,
     POWERS_MORE, RULES_ALL, RULES_MORE, RULES_NAMESPACE, STEPS, TO_NAMESPACE, UNIVERSE_MORE,
-    WHO_CAN_MORE, WHO_CAN_STEPS, WHY, WHY_NOT,
+    UNUSED_MORE, UNUSED_SKIP_SYSTEM, WHO_CAN_MORE, WHO_CAN_STEPS, WHY, WHY_NOT,
 };
 use crate::holder_options::with_holder_options;
 use crate::matrix_options::with_matrix_options;
@@ -256,7 +257,7 @@ fn to_arg<'a>(alloc: Global) -> Arg<'a>
         alloc,
         "to",
         "TO",
-        "List only the path to TO, a second field of other lines, e.g. u:bob or ClusterRole/edit",
+        "List only the path to TO, as the second field of a line has it, e.g. u:bob or ClusterRole/edit",
     )
 }
 
@@ -269,6 +270,20 @@ fn skip_system_arg<'a>(alloc: Global) -> Arg<'a>
         "skip-system",
         "Leave out built-in objects: system:*, cluster roles admin, edit, view and cluster-admin",
     )
+}
+
+fn log_arg<'a>(alloc: Global) -> Arg<'a>
+    ensures rule { rule_of result ≡ log_rule }
+    ensures local { result.global ≡ false }
+{
+    option(
+        alloc,
+        "log",
+        "LOG",
+        "Audit log of the API server, JSON lines; - is standard input; may be repeated",
+    )
+    .required(true)
+    .action(ArgAction::Append)
 }
 
 fn files_arg<'a>(alloc: Global) -> Arg<'a>
@@ -540,6 +555,21 @@ fn with_sub<'a>(command: Command<'a>, sub: Built<'a>) -> Built<'a>
     command.subcommand(sub?)
 }
 
+fn unused<'a>(alloc: Global) -> Built<'a>
+    ensures app { IfOk result (λ r. app_of r ≡ unused_app) }
+    ensures local { IfOk result (λ r. (fields_of r).has_globals ≡ false) }
+{
+    let command = named(
+        alloc,
+        "unused",
+        "List what no request of audit logs used, so that it can go: status 1 if there is anything",
+        UNUSED_MORE,
+    );
+    let command = with(Ok(command), log_arg(alloc));
+    let command = with(command, flag(alloc, "skip-system", UNUSED_SKIP_SYSTEM));
+    with(command, files_arg(alloc))
+}
+
 // The program, without its subcommands. Usage texts call it `rbacaudit`, whatever the first word
 // is.
 fn bare<'a>(alloc: Global) -> Built<'a>
@@ -579,5 +609,6 @@ pub(crate) fn program<'a>(alloc: Global) -> Result<Command<'a>, AllocError>
     let command = with_sub(command, lint(alloc))?;
     let command = with_sub(command, powers(alloc))?;
     let command = with_sub(command, paths(alloc))?;
-    with_sub(command, diff(alloc))
+    let command = with_sub(command, diff(alloc))?;
+    with_sub(command, unused(alloc))
 }

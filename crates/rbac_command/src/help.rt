@@ -224,7 +224,41 @@ Examples:
   rbacaudit diff --before monday/*.json --after friday/*.json
   rbacaudit diff --before prod/*.json --without old.json --with new.json";
 
-// The help texts of options that several commands have, and of --indirect.
+pub(crate) const UNUSED_MORE: &str =
+    "A permission of a binding is a rule of its role, with one word of each list of the rule: verb,
+API group, resource and object name, or verb and URL. It is used if it allows a request of the logs.
+For what isn't used, there is a line about the largest part that can go:
+  binding     no permission of the binding was used
+  subject     the binding was used, but by nobody whom this subject names
+  rule        no permission of the rule was used through this binding
+  permission  this permission of the rule wasn't used through this binding
+All grants that allow a request are used. So whoever deletes all that is listed takes away nothing
+that was asked for in the logs. Short logs lack the requests of rare jobs.
+
+A line has ten fields, joined by tabs; - is a field that the line doesn't have:
+  LINE      binding, subject, rule or permission
+  BINDING   the binding
+  ROLE      the role that the binding names
+  SOURCE    the role that contains the rule: ROLE, or a role that an aggregated ROLE gathers
+  RULE      the number of the rule in SOURCE, from 1
+  SUBJECT   the number of the subject in BINDING, from 1
+  WHO       of a subject, u:USER or g:GROUP; of a permission, its VERB
+  GROUP     the API group
+  RESOURCE  the resource, or a URL
+  NAME      the object name; * is any name
+
+A LOG has one Event or EventList of audit.k8s.io/v1 a line, as an API server writes it with
+--audit-log-path; the level Metadata is enough. It may be of any size. Requests that the server
+denied don't count. Errors number logs, and the lines of a log, from 1.
+
+The exit status is 1 if a line is listed, else 0; 2 is an error.
+
+Examples:
+  rbacaudit unused --log audit.log cluster.json namespaced.json
+  rbacaudit unused --log audit-1.log --log audit-2.log --skip-system *.json
+  zcat audit*.gz | rbacaudit unused --log - cluster.json namespaced.json";
+
+// The help texts of options that several commands have, of --indirect, and of --skip-system.
 pub(crate) const NAMESPACE: &str = "Namespace to check (default: default)";
 
 pub(crate) const ALL: &str =
@@ -246,6 +280,9 @@ pub(crate) const STEPS: &str = "Only these steps count, e.g. run,exec (default: 
 
 pub(crate) const TO_NAMESPACE: &str =
     "With --to, the namespace where a ClusterRole or * counts (default: the whole cluster)";
+
+pub(crate) const UNUSED_SKIP_SYSTEM: &str =
+    "Leave out bindings whose names begin with system:, which are Kubernetes' own";
 
 pub(crate) const RULES_NAMESPACE: &str =
     "Namespace whose RoleBindings count, with all ClusterRoleBindings (default: any)";

@@ -12,7 +12,7 @@ ghost use Rattle.rbac_command.specs.Meaning.{IsNumberAt, files_in, diff_files_in
 ghost use Rattle.rbac_command.specs.Meaning.{parts_in, is_known, DoesAction, RefusesAction, Means};
 ghost use Rattle.rbac_command.specs.Meaning.{IsCauseOf, IsUsageFault, IsAnswer, verdict_options_in, who_can_in};
 ghost use Rattle.rbac_command.specs.Meaning.{who_in, rules_line_in, paths_line_in};
-ghost use Rattle.rbac_command.specs.Meaning.{lint_in, diff_in};
+ghost use Rattle.rbac_command.specs.Meaning.{lint_in, diff_in, logs_in, unused_in};
 ghost use Rattle.rbac_command.specs.Values.{value_at, has_flag, texts_at};
 
 use crate::build::program;
@@ -23,7 +23,7 @@ use clap::ArgMatches;
 use clap::error::ErrorKind;
 use rbac_question::{
     Action, CanILine, Command, DiffLine, LintLine, MatrixLine, PathsLine, QuestionFault,
-    QuestionLine, RulesLine, VerdictOptions, WhoCanLine, WhoLine,
+    QuestionLine, RulesLine, UnusedLine, VerdictOptions, WhoCanLine, WhoLine,
 };
 use std::alloc::{AllocError, Global};
 
@@ -199,6 +199,20 @@ fn diff_line_of(matches: &ArgMatches<'_>) -> DiffLine
     }
 }
 
+// The parts of an `unused` line.
+fn unused_line_of<'m, 'a>(matches: &'m ArgMatches<'a>) -> UnusedLine<'m, 'a>
+    ensures { result ≡ unused_in (rows_of (found_of matches.now)) }
+{
+    let skip_system = flag_of(matches, "skip-system");
+    let logs = values_of(matches, "log");
+    let files = count_of(matches, "files");
+    UnusedLine {
+        skip_system,
+        logs,
+        files,
+    }
+}
+
 // Adds the files of a `diff` line: those of each option, in this order.
 fn add_diff_files(
     alloc: Global,
@@ -226,6 +240,18 @@ fn files_of(alloc: Global, name: &str, matches: &ArgMatches<'_>) -> Result<Vec<S
         add_texts(alloc, matches, "files", &mut files)?;
     }
     Ok(files)
+}
+
+// The logs of the subcommand of that name.
+fn logs_of(alloc: Global, name: &str, matches: &ArgMatches<'_>) -> Result<Vec<String>, AllocError>
+    ensures { IfOk result
+        (λ v. map string_bytes v.items ≡ logs_in name.now (rows_of (found_of matches.now))) }
+{
+    let mut logs = Vec::new(alloc);
+    if name == "unused" {
+        add_texts(alloc, matches, "log", &mut logs)?;
+    }
+    Ok(logs)
 }
 
 // Adds all values of `id`, in order.
@@ -292,6 +318,9 @@ fn action_of(alloc: Global, name: &str, matches: &ArgMatches<'_>) -> Result<Acti
     if name == "diff" {
         return Action::diff(&diff_line_of(matches));
     }
+    if name == "unused" {
+        return Action::unused(&unused_line_of(matches));
+    }
     Action::can_i(alloc, &line_of(matches))
 }
 
@@ -311,8 +340,13 @@ fn meaning_of(alloc: Global, matches: &ArgMatches<'_>) -> Result<Command, Questi
     match subcommand_of(matches) {
         Some((name, inner)) => {
             let files = files_of(alloc, name, inner)?;
+            let logs = logs_of(alloc, name, inner)?;
             let action = action_of(alloc, name, inner)?;
-            Ok(Command { action, files })
+            Ok(Command {
+                action,
+                files,
+                logs,
+            })
         }
         None => unreachable!(),
     }
@@ -320,7 +354,7 @@ fn meaning_of(alloc: Global, matches: &ArgMatches<'_>) -> Result<Command, Questi
 
 /// The command that the words mean; the first word is the program's name.
 ///
-/// U1 if `clap` refuses the words, or if help or the version is asked for; otherwise U2 to U10, or
+/// U1 if `clap` refuses the words, or if help or the version is asked for; otherwise U2 to U11, or
 /// out of memory.
 pub fn command_of(alloc: Global, words: &[String]) -> Result<Command, UsageFault>
     ensures { IsAnswer (map string_bytes words.now) result }

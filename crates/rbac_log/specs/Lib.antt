@@ -3,5 +3,7 @@ pub mod Asked
 pub mod Event
 pub mod FaultTexts
 pub mod Line
+pub mod Logs
 pub mod Outcome
+pub mod Reading
 pub mod User

@@ -8,7 +8,9 @@ mod event;
 mod fault;
 mod laws;
 mod line;
+mod log_fault;
 mod logged;
+mod reading;
 #[cfg(test)]
 mod tests;
 mod user;
@@ -19,4 +21,6 @@ pub use laws::{
     what_was_not_allowed_tells_nothing,
 };
 pub use line::requests_in_line;
+pub use log_fault::LogFault;
 pub use logged::LoggedRequest;
+pub use reading::{read_log, read_log_file, read_log_slice};

@@ -9,7 +9,8 @@ use Rattle.rbac_question.specs.declared.fault.QuestionFault.TheVariants.{EmptyWo
 use Rattle.rbac_question.specs.declared.fault.QuestionFault.TheVariants.{BadToken, BadPrincipal}
 use Rattle.rbac_question.specs.declared.fault.QuestionFault.TheVariants.{BadCode, BadChange}
 use Rattle.rbac_question.specs.declared.fault.QuestionFault.TheVariants.{BadStep, BadIndirect}
-use Rattle.rbac_question.specs.declared.fault.QuestionFault.TheVariants.{BadEnd, NoMemory}
+use Rattle.rbac_question.specs.declared.fault.QuestionFault.TheVariants.{BadEnd, BadLogs}
+use Rattle.rbac_question.specs.declared.fault.QuestionFault.TheVariants.{NoMemory}
 
 -- a type word is not empty, has something before its first dot, and has no slash
 abbrev pub IsTypeWord : Text → Type 0
@@ -50,4 +51,5 @@ RefusesTarget target subresource BadChange = ⊥
 RefusesTarget target subresource BadStep = ⊥
 RefusesTarget target subresource BadIndirect = ⊥
 RefusesTarget target subresource BadEnd = ⊥
+RefusesTarget target subresource BadLogs = ⊥
 RefusesTarget target subresource NoMemory = Unit {0}

@@ -4,7 +4,8 @@ use Rattle.rbac_question.specs.declared.fault.QuestionFault.TheVariants.{EmptyWo
 use Rattle.rbac_question.specs.declared.fault.QuestionFault.TheVariants.{BadToken, BadPrincipal}
 use Rattle.rbac_question.specs.declared.fault.QuestionFault.TheVariants.{BadCode, BadChange}
 use Rattle.rbac_question.specs.declared.fault.QuestionFault.TheVariants.{BadStep, BadIndirect}
-use Rattle.rbac_question.specs.declared.fault.QuestionFault.TheVariants.{BadEnd, NoMemory}
+use Rattle.rbac_question.specs.declared.fault.QuestionFault.TheVariants.{BadEnd, BadLogs}
+use Rattle.rbac_question.specs.declared.fault.QuestionFault.TheVariants.{NoMemory}
 use Rattle.rbac_token.specs.declared.fault.TokenFault.{TokenFault}
 use Rattle.rbac_token.specs.declared.fault.TokenFault.TheVariants as token
 
@@ -22,6 +23,8 @@ fault_text BadIndirect = codes "U9 --indirect excludes --anywhere, --any-name, -
     ++ codes "--steps needs --indirect"
 fault_text BadEnd = codes "U10 --to takes u:USER, g:GROUP, ClusterRole/NAME, Role/NS/NAME or *; "
     ++ codes "-n NS needs one of the last three"
+fault_text BadLogs = codes "U11 --log - may be given once, and needs a FILE: "
+    ++ codes "standard input can be read only once"
 fault_text NoMemory = codes "out of memory"
 
 -- the refusal of a line whose token has this fault

@@ -4,4 +4,5 @@ pub mod Lines
 pub mod PathEnds
 pub mod PathsLines
 pub mod StepsLines
+pub mod UnusedLines
 pub mod WhoCanLines

@@ -22,7 +22,8 @@ use Rattle.rbac_question.specs.declared.fault.QuestionFault.TheVariants.{EmptyWo
 use Rattle.rbac_question.specs.declared.fault.QuestionFault.TheVariants.{BadToken, BadPrincipal}
 use Rattle.rbac_question.specs.declared.fault.QuestionFault.TheVariants.{BadCode, BadChange}
 use Rattle.rbac_question.specs.declared.fault.QuestionFault.TheVariants.{BadStep, BadIndirect}
-use Rattle.rbac_question.specs.declared.fault.QuestionFault.TheVariants.{BadEnd, NoMemory}
+use Rattle.rbac_question.specs.declared.fault.QuestionFault.TheVariants.{BadEnd, BadLogs}
+use Rattle.rbac_question.specs.declared.fault.QuestionFault.TheVariants.{NoMemory}
 use Rattle.rbac_question.specs.declared.line.DiffLine.{DiffLine}
 
 -- the parts of a line that ask a question; the text of an option that isn't given is empty
@@ -205,6 +206,7 @@ RefusesQuestion l BadChange = ⊥
 RefusesQuestion l BadStep = ⊥
 RefusesQuestion l BadIndirect = ⊥
 RefusesQuestion l BadEnd = ⊥
+RefusesQuestion l BadLogs = ⊥
 RefusesQuestion l NoMemory = Unit {0}
 
 -- a `can-i` line without U2 and U3; here an empty USER is U2 too (own)
@@ -222,6 +224,7 @@ RefusesCanI l BadChange = ⊥
 RefusesCanI l BadStep = ⊥
 RefusesCanI l BadIndirect = ⊥
 RefusesCanI l BadEnd = ⊥
+RefusesCanI l BadLogs = ⊥
 RefusesCanI l NoMemory = Unit {0}
 
 -- U4: the text after `--after` isn't the token of any mark, with or without `--every` (own)
@@ -240,6 +243,7 @@ RefusesMatrix l BadChange = ⊥
 RefusesMatrix l BadStep = ⊥
 RefusesMatrix l BadIndirect = ⊥
 RefusesMatrix l BadEnd = ⊥
+RefusesMatrix l BadLogs = ⊥
 RefusesMatrix l NoMemory = Unit {0}
 
 -- U5: WHO, `--groups` and `--group` name no principal (own)
@@ -257,6 +261,7 @@ RefusesWho l BadChange = ⊥
 RefusesWho l BadStep = ⊥
 RefusesWho l BadIndirect = ⊥
 RefusesWho l BadEnd = ⊥
+RefusesWho l BadLogs = ⊥
 RefusesWho l NoMemory = Unit {0}
 
 -- the refusal of a `rules` line
@@ -280,6 +285,7 @@ RefusesLint l BadChange = ⊥
 RefusesLint l BadStep = ⊥
 RefusesLint l BadIndirect = ⊥
 RefusesLint l BadEnd = ⊥
+RefusesLint l BadLogs = ⊥
 RefusesLint l NoMemory = Unit {0}
 
 -- U7: none of `--after`, `--without` and `--with` is given, or `--after` with one of the others

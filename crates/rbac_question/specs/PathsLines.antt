@@ -11,7 +11,8 @@ use Rattle.rbac_question.specs.declared.fault.QuestionFault.TheVariants.{EmptyWo
 use Rattle.rbac_question.specs.declared.fault.QuestionFault.TheVariants.{BadToken, BadPrincipal}
 use Rattle.rbac_question.specs.declared.fault.QuestionFault.TheVariants.{BadCode, BadChange}
 use Rattle.rbac_question.specs.declared.fault.QuestionFault.TheVariants.{BadStep, BadIndirect}
-use Rattle.rbac_question.specs.declared.fault.QuestionFault.TheVariants.{BadEnd, NoMemory}
+use Rattle.rbac_question.specs.declared.fault.QuestionFault.TheVariants.{BadEnd, BadLogs}
+use Rattle.rbac_question.specs.declared.fault.QuestionFault.TheVariants.{NoMemory}
 
 -- the parts of a `paths` line: those that name a principal, the texts after `--steps` and `--to`,
 -- and the text after `-n`, which is empty if it isn't given
@@ -45,4 +46,5 @@ RefusesPaths l BadStep = (¬ HasBadPrincipal l.who) × HasBadStep l.steps
 RefusesPaths l BadIndirect = ⊥
 RefusesPaths l BadEnd =
     (¬ HasBadPrincipal l.who) × AreStepWords l.steps × HasBadEnd l.to l.namespace
+RefusesPaths l BadLogs = ⊥
 RefusesPaths l NoMemory = Unit {0}

@@ -12,7 +12,8 @@ use Rattle.rbac_question.specs.declared.fault.QuestionFault.TheVariants.{EmptyWo
 use Rattle.rbac_question.specs.declared.fault.QuestionFault.TheVariants.{BadToken, BadPrincipal}
 use Rattle.rbac_question.specs.declared.fault.QuestionFault.TheVariants.{BadCode, BadChange}
 use Rattle.rbac_question.specs.declared.fault.QuestionFault.TheVariants.{BadStep, BadIndirect}
-use Rattle.rbac_question.specs.declared.fault.QuestionFault.TheVariants.{BadEnd, NoMemory}
+use Rattle.rbac_question.specs.declared.fault.QuestionFault.TheVariants.{BadEnd, BadLogs}
+use Rattle.rbac_question.specs.declared.fault.QuestionFault.TheVariants.{NoMemory}
 
 -- the parts of a `who-can` line: `--indirect`, the text after `--steps`, the options about holders,
 -- and the parts that ask the question
@@ -62,4 +63,5 @@ RefusesWhoCan l BadChange = ⊥
 RefusesWhoCan l BadStep = AcceptsQuestion l.question × HasBadStep l.steps
 RefusesWhoCan l BadIndirect = AcceptsQuestion l.question × AreStepWords l.steps × (¬ GoTogether l)
 RefusesWhoCan l BadEnd = ⊥
+RefusesWhoCan l BadLogs = ⊥
 RefusesWhoCan l NoMemory = Unit {0}

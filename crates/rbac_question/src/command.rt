@@ -129,6 +129,11 @@ pub enum Action {
         /// Whether findings about Kubernetes' own objects are left out.
         skip_system: bool,
     },
+    /// Lists what no request of the logs used: bindings, subjects, rules and permissions.
+    Unused {
+        /// Whether bindings whose names begin with `system:` are left out.
+        skip_system: bool,
+    },
     /// Lists who can act as others, or come to do so, by which step of the table and where.
     Powers,
     /// Lists whom a principal can come to act as, step by step.
@@ -179,6 +184,7 @@ impl Drop for Action {
                 only: _,
                 skip_system: _,
             } => {}
+            Self::Unused { skip_system: _ } => {}
             Self::Powers => {}
             Self::Paths {
                 principal: _,
@@ -199,10 +205,17 @@ pub struct Command {
     pub action: Action,
     /// The names of the files to read, in order; without any, standard input is read.
     pub files: Vec<String>,
+    /// The names of the logs to read, in order; `-` is standard input. Only `unused` has logs, and
+    /// it has one at least.
+    pub logs: Vec<String>,
 }
 
 impl Drop for Command {
     fn drop(self) {
-        let Self { action, files } = self;
+        let Self {
+            action,
+            files,
+            logs,
+        } = self;
     }
 }

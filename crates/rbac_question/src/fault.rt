@@ -19,6 +19,10 @@ const BAD_INDIRECT: &str = "U9 --indirect excludes --anywhere, --any-name, --eve
 const BAD_END: &str = "U10 --to takes u:USER, g:GROUP, ClusterRole/NAME, Role/NS/NAME or *; \
     -n NS needs one of the last three";
 
+// The text of U11, which states how standard input can be read once.
+const BAD_LOGS: &str = "U11 --log - may be given once, and needs a FILE: \
+    standard input can be read only once";
+
 /// Why the texts of a line are refused (own).
 #[derive(Debug, Drop, Clone, Copy, PartialEq, Eq)]
 pub enum QuestionFault {
@@ -45,6 +49,9 @@ pub enum QuestionFault {
     /// or `paths` has `-n` without `--to`, beside a user or a group, or beside a Role of another
     /// namespace.
     BadEnd,
+    /// U11: `unused` has `--log -` twice, or `--log -` without a FILE, so it would read standard
+    /// input twice.
+    BadLogs,
     /// Out of memory.
     NoMemory,
 }
@@ -101,6 +108,7 @@ impl fmt::Display for QuestionFault {
             QuestionFault::BadStep => BAD_STEP,
             QuestionFault::BadIndirect => BAD_INDIRECT,
             QuestionFault::BadEnd => BAD_END,
+            QuestionFault::BadLogs => BAD_LOGS,
             QuestionFault::NoMemory => "out of memory",
         };
         f.write_str(text)

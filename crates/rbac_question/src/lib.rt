@@ -9,6 +9,7 @@ mod line;
 mod path_end;
 mod paths_line;
 mod steps_line;
+mod unused_line;
 mod who;
 mod who_can_line;
 
@@ -22,5 +23,6 @@ pub use path_end::PathEnd;
 pub use paths_line::PathsLine;
 pub use rbac_steps::Step;
 pub use rbac_terms::Scope;
+pub use unused_line::UnusedLine;
 pub use who::WhoLine;
 pub use who_can_line::WhoCanLine;

@@ -1,13 +1,13 @@
 //! `rbacaudit`: answers questions about exported Kubernetes roles.
 //!
-//! Reads the command line, then each FILE in order or standard input, runs the command with its
-//! answer on standard output, and reports a fault on standard error. The exit status is 0, or 1 for
-//! `no`, findings or changes, or 2 for a fault.
+//! Reads the command line, then each FILE in order or standard input, then each log, runs the
+//! command with its answer on standard output, and reports a fault on standard error. The exit
+//! status is 0, or 1 for `no`, findings, changes or unused permissions, or 2 for a fault.
 #![tactic(auto)]
 
 use rbac_cli::{
-    Command, Input, InputFault, RunFault, Sink, Source, Status, UsageFault, command_of, read_file,
-    read_input, run,
+    Command, Input, InputFault, Log, LogFault, RunFault, Sink, Source, Status, UsageFault,
+    command_of, read_file, read_input, read_log, read_log_file, run,
 };
 use std::alloc::AllocError;
 use std::env::{Env, FillError};
@@ -27,6 +27,8 @@ enum Fault {
     Usage(UsageFault),
     // A fault of the input at this place, counted from 0.
     Input { place: usize, fault: InputFault },
+    // A fault of the log at this place, counted from 0.
+    Log { place: usize, fault: LogFault },
     Run(RunFault),
 }
 
@@ -45,6 +47,11 @@ impl fmt::Display for Fault {
                 ..
             } => write!(f, "{}", InputFault::NoMemory),
             Fault::Input { place, fault } => write!(f, "file {}: {fault}", *place as u128 + 1),
+            Fault::Log {
+                fault: LogFault::NoMemory,
+                ..
+            } => write!(f, "{}", LogFault::NoMemory),
+            Fault::Log { place, fault } => write!(f, "log {}: {fault}", *place as u128 + 1),
             Fault::Run(fault) => write!(f, "{fault}"),
         }
     }
@@ -83,8 +90,9 @@ fn command_given(rt: &HostRuntime) -> Result<Command, Fault> {
 // Answers the command over its inputs, on standard output.
 fn answer(rt: &HostRuntime, command: &Command) -> Result<Status, Fault> {
     let inputs = inputs_of(rt, command.files.as_slice())?;
+    let log = log_of(rt, command.logs.as_slice())?;
     let mut sink = Sink::new(rt.stdout());
-    run(rt.alloc(), command, inputs.as_slice(), &mut sink).map_err(Fault::Run)
+    run(rt.alloc(), command, inputs.as_slice(), &log, &mut sink).map_err(Fault::Run)
 }
 
 fn words_of(rt: &HostRuntime) -> Result<Vec<String>, Fault> {
@@ -143,5 +151,27 @@ fn add(inputs: &mut Vec<Input>, read: Result<Input, InputFault>) -> Result<(), F
             }),
         },
         Err(fault) => Err(Fault::Input { place, fault }),
+    }
+}
+
+// The requests of all logs.
+fn log_of(rt: &HostRuntime, names: &[String]) -> Result<Log, Fault> {
+    let mut log = Log::new(rt.alloc());
+    let mut place = 0;
+    for name in names {
+        match read_named(rt, name.as_str(), &mut log) {
+            Ok(()) => place += 1,
+            Err(fault) => return Err(Fault::Log { place, fault }),
+        }
+    }
+    Ok(log)
+}
+
+// Reads the log of this name; `-` is standard input.
+fn read_named(rt: &HostRuntime, name: &str, log: &mut Log) -> Result<(), LogFault> {
+    if name == "-" {
+        read_log(rt.alloc(), &mut Source::new(rt.stdin()), log)
+    } else {
+        read_log_file(rt, rt.alloc(), name, log)
     }
 }

@@ -11,7 +11,7 @@ sides_of-requires c =
     omega (arith, few, c.split_at.ensures.front_len, c.split_at.ensures.back_len)
 
 pub returns-in-Ok-clause-ok : goal.returns-in-Ok-clause-ok
-returns-in-Ok-clause-ok c =
+returns-in-Ok-clause-ok c = λ log.
     let inputs = c.args.inputs.now in
     let first = c.split_at.ensures.front ∙ ap (λ (n : ℕ). take n inputs) c.min.ensures ∙ take_min c.args.before inputs in
     let others = c.split_at.ensures.back ∙ ap (λ (n : ℕ). drop n inputs) c.min.ensures ∙ drop_min c.args.before inputs in (
