@@ -1,12 +1,14 @@
 pub mod Allowing
 pub mod AskedOf
 pub mod BindingLines
+pub mod ByBinding
 pub mod CanMatch
 pub mod Exact
 pub mod FirstPlaces
 pub mod Grants
 pub mod Logged
 pub mod Needed
+pub mod NextAllowing
 pub mod PartLines
 pub mod Places
 pub mod RuleLines

@@ -1,5 +1,6 @@
 pub mod Adding
 pub mod Asked
+pub mod ByBinding
 pub mod Logs
 pub mod Permissions
 pub mod Requests

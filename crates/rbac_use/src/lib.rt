@@ -3,9 +3,11 @@
 
 mod asked;
 mod bindings;
+mod by_binding;
 mod laws;
 mod line;
 mod log;
+mod next_binding;
 mod permission;
 mod request;
 mod rules;
