@@ -6,8 +6,12 @@ pub mod CanMatch
 pub mod Exact
 pub mod FirstPlaces
 pub mod Grants
+pub mod Grouped
+pub mod LeastAllowed
+pub mod LeastSteps
 pub mod Logged
 pub mod Needed
+pub mod NeededRequests
 pub mod NextAllowing
 pub mod PartLines
 pub mod Places

@@ -2,6 +2,7 @@
 //! are asked: these are looked up.
 
 ghost use Rattle.std.specs.Prelude.{◌≡◌, ◌<◌, ◌↔◌, IfOk, IsTrue, length};
+ghost use Rattle.rbac_model.specs.Policies.{IsPolicy};
 ghost use Rattle.rbac_subjects.specs.Keyed.{AnswersNext};
 ghost use Rattle.rbac_use.specs.Asked.{IsNamedAt};
 ghost use Rattle.rbac_use.specs.Requests.{request_of};
@@ -35,8 +36,9 @@ pub(crate) fn next_allowing(
     place: usize,
 ) -> Option<usize>
     requires { index.now ≡ policy.now }
-    ensures { AnswersNext (λ at. IsAllowedAt policy.now at (request_of request.entry)) place
+    ensures next { AnswersNext (λ at. IsAllowedAt policy.now at (request_of request.entry)) place
         result }
+    ensures policy { IsPolicy policy.now }
 {
     let (mut from, _) = policy.grants_of(place);
     while let Some((start, _)) = index.next_run(request.who, request.namespace, from) {

@@ -27,8 +27,8 @@ pub allows_at-requires-clause-named : goal.allows_at-requires-clause-named
 allows_at-requires-clause-named c =
     named_here c.args.policy.now (request_of c.args.request) c.args.place c.loop-start.from c.loop-start.invariant c.grants_of-from.ensures.policy c.in-Some.start c.in-Some.field-0-1 c.place-here.result.binding (rw (← c.requires) c.in-Some.ensures) c.place-here.ensures.binding
 
-pub returns-then-allows_at : goal.returns-then-allows_at
-returns-then-allows_at c =
+pub returns-then-allows_at-clause-next : goal.returns-then-allows_at-clause-next
+returns-then-allows_at-clause-next c =
     is_next c.args.policy.now (request_of c.args.request) c.args.place c.loop-start.from c.loop-start.invariant c.grants_of-from.ensures.policy c.in-Some.start c.in-Some.field-0-1 c.place-here.result.binding (rw (← c.requires) c.in-Some.ensures) c.place-here.ensures.binding
     (c.allows_at.ensures.0 c.if-allows_at.true)
 
@@ -43,6 +43,6 @@ loop-start-preserved c =
     more_done c.args.policy.now (request_of c.args.request) c.args.place c.loop-start.from c.loop-start.invariant c.grants_of-from.ensures.policy c.in-Some.start c.in-Some.field-0-1 c.place-here.result.binding (rw (← c.requires) c.in-Some.ensures) c.place-here.ensures.binding c.grants_of-from-in-Some.result.1 c.grants_of-from-in-Some.ensures.upto
     (λ allowed. both_ways _ c.if-allows_at.false (c.allows_at.ensures.1 allowed))
 
-pub returns : goal.returns
-returns c =
+pub returns-clause-next : goal.returns-clause-next
+returns-clause-next c =
     none_left c.args.policy.now (request_of c.args.request) c.args.place c.loop-start.from c.loop-start.invariant (rw (← c.requires) c.in_default.ensures)
