@@ -29,13 +29,13 @@ read_contains xs x c = slice_get_read xs (length xs) c.0 x refl c.1 (sym c.2)
 
 module _ (P : RequestView → Type 0) (requests : List Request) where
   -- a request of the log is one that was given
-  of_log : Any P (log_of requests) → (q : Request) × Contains requests q × P (request_of q)
+  pub of_log : Any P (log_of requests) → (q : Request) × Contains requests q × P (request_of q)
   of_log w =
       let at : slice_get (log_of requests) w.0 ≡ Some w.1 = read_contains (log_of requests) w.1 (w.0, w.2, w.3) in
       let m = mapped (λ (q : Request). request_of q) (slice_get requests w.0) w.1 (sym (slice_get-map (λ (q : Request). request_of q) requests w.0) ∙ at) in
       (m.0, contains_read requests w.0 m.0 m.1, subst P (sym m.2) w.4)
 
-  in_log : (q : Request) → Contains requests q → P (request_of q) → Any P (log_of requests)
+  pub in_log : (q : Request) → Contains requests q → P (request_of q) → Any P (log_of requests)
   in_log q c h =
       let at : slice_get (log_of requests) c.0 ≡ Some (request_of q) = slice_get-map (λ (x : Request). request_of x) requests c.0 ∙ ap (option_map (λ (x : Request). request_of x)) (read_contains requests q c) in
       any_at P (log_of requests) c.0 (request_of q) at h
@@ -87,27 +87,36 @@ module _ (p : PolicyView) (place : ℕ) (requests asked : List Request) (are : A
 
 -- ---- one request more
 
-module _ (p : PolicyView) (place : ℕ) (done asked : List Request) (q : Request) (are : AreAskedAt p place done asked) where
-  pub asked_one : IsAllowedAt p place (request_of q) → AreAskedAt p place (done ++ q ∷ []) (asked ++ q ∷ [])
-  asked_one allowed x = (
-    λ c. elim (Contains-push_cases asked q x c) [
+module _ (P : Request → Type 0) (done kept : List Request) (q : Request) (are : (x : Request) → Contains kept x ↔ (Contains done x × P x)) where
+  -- it has the property, and is kept, too
+  pub kept_one : P q → (x : Request) → Contains (kept ++ q ∷ []) x ↔ (Contains (done ++ q ∷ []) x × P x)
+  kept_one has x = (
+    λ c. elim (Contains-push_cases kept q x c) [
       | inl h ↦ (let both = (are x).0 h in (Contains-append_left done (q ∷ []) x both.0, both.1))
-      | inr e ↦ subst (λ (y : Request). Contains (done ++ q ∷ []) y × IsAllowedAt p place (request_of y)) e (Contains-push done q, allowed)
+      | inr e ↦ subst (λ (y : Request). Contains (done ++ q ∷ []) y × P y) e (Contains-push done q, has)
     ],
     λ w. elim (Contains-push_cases done q x w.0) [
-      | inl h ↦ Contains-append_left asked (q ∷ []) x ((are x).1 (h, w.1))
-      | inr e ↦ subst (λ (y : Request). Contains (asked ++ q ∷ []) y) e (Contains-push asked q)
+      | inl h ↦ Contains-append_left kept (q ∷ []) x ((are x).1 (h, w.1))
+      | inr e ↦ subst (λ (y : Request). Contains (kept ++ q ∷ []) y) e (Contains-push kept q)
     ],
   )
 
-  pub asked_none : (IsAllowedAt p place (request_of q) → ⊥) → AreAskedAt p place (done ++ q ∷ []) asked
-  asked_none not x = (
+  -- it hasn't, and isn't kept
+  pub kept_none : (P q → ⊥) → (x : Request) → Contains kept x ↔ (Contains (done ++ q ∷ []) x × P x)
+  kept_none not x = (
     λ c. (let both = (are x).0 c in (Contains-append_left done (q ∷ []) x both.0, both.1)),
     λ w. elim (Contains-push_cases done q x w.0) [
       | inl h ↦ (are x).1 (h, w.1)
-      | inr e ↦ absurd (not (subst (λ (y : Request). IsAllowedAt p place (request_of y)) (sym e) w.1))
+      | inr e ↦ absurd (not (subst P (sym e) w.1))
     ],
   )
+
+module _ (p : PolicyView) (place : ℕ) (done asked : List Request) (q : Request) (are : AreAskedAt p place done asked) where
+  pub asked_one : IsAllowedAt p place (request_of q) → AreAskedAt p place (done ++ q ∷ []) (asked ++ q ∷ [])
+  asked_one = kept_one (λ (x : Request). IsAllowedAt p place (request_of x)) done asked q are
+
+  pub asked_none : (IsAllowedAt p place (request_of q) → ⊥) → AreAskedAt p place (done ++ q ∷ []) asked
+  asked_none = kept_none (λ (x : Request). IsAllowedAt p place (request_of x)) done asked q are
 
 -- a request more of those that are given
 pub one_taken : (requests : List Request) (i : ℕ) (q : Request) → i < length requests → q ≡ get_or requests i q → take (i + 1) requests ≡ take i requests ++ q ∷ []

@@ -19,7 +19,7 @@ use Rattle.rbac_use.specs.Requests.{log_of, request_of}
 use Rattle.rbac_use.specs.declared.request.Request.{Request}
 use Rattle.rbac_use.specs.Logs.{request_cmp, request_texts, target_kind}
 
-exact_texts : (xs ys : List Text) → slice_cmp text_cmp xs ys ≡ Equal → xs ≡ ys
+pub exact_texts : (xs ys : List Text) → slice_cmp text_cmp xs ys ≡ Equal → xs ≡ ys
 exact_texts [] [] e = refl
 exact_texts [] (y ∷ ys) e = cc
 exact_texts (x ∷ xs) [] e = cc

@@ -1,18 +1,24 @@
 -- The requests that a binding allows, and what they use.
 use Rattle.std.specs.Prelude.{◌≡◌, ◌↔◌, ℕ, List, Option, Some, Any, Contains, slice_get}
 use Rattle.rbac_terms.specs.Text.{Text}
+use Rattle.rbac_terms.specs.Principals.{Who}
 use Rattle.rbac_terms.specs.Granting.{Names}
 use Rattle.rbac_terms.specs.Matching.{RuleAllows}
 use Rattle.rbac_terms.specs.declared.granting.Binding.{Binding}
 use Rattle.rbac_terms.specs.declared.granting.Subject.{Subject}
 use Rattle.rbac_terms.specs.declared.matching.Rule.{Rule}
-use Rattle.rbac_model.specs.Policies.{PolicyView}
+use Rattle.rbac_model.specs.Policies.{BindingNames, PolicyView}
 use Rattle.rbac_use.specs.Adding.{line_at}
 use Rattle.rbac_use.specs.Requests.{request_of}
 use Rattle.rbac_use.specs.Used.{IsAllowedAt, NamesSomebody}
 use Rattle.rbac_use.specs.declared.request.Request.{Request}
 use Rattle.rbac_use.specs.declared.unused.Part.TheVariants.{Subject as ForSubject}
 use Rattle.rbac_use.specs.declared.unused.Unused.{Unused}
+
+-- the binding at that place names the principal
+abbrev pub IsNamedAt : PolicyView → ℕ → Who → Type 0
+IsNamedAt p place who = (b : Binding) → slice_get p.held.bindings place ≡ Some b
+    → BindingNames b who
 
 -- exactly those of the requests that the binding at that place allows
 abbrev pub AreAskedAt : PolicyView → ℕ → List Request → List Request → Type 0

@@ -1,6 +1,11 @@
 pub mod Adding
 pub mod Asked
+pub mod ByBinding
+pub mod Grouping
+pub mod Least
+pub mod LeastRules
 pub mod Logs
+pub mod Needs
 pub mod Permissions
 pub mod Requests
 pub mod Rest

@@ -1,15 +1,16 @@
 //! The unused parts of a binding.
 
-ghost use Rattle.std.specs.Prelude.{◌≡◌, ◌<◌, ◌↔◌, [], IsTrue, OnOk, length, option_copied};
+ghost use Rattle.std.specs.Prelude.{◌≡◌, ◌<◌, ◌↔◌, [], IsTrue, List, OnOk, length, option_copied};
 ghost use Rattle.rbac_use.specs.Adding.{AddsLines, OfSome, line_at};
-ghost use Rattle.rbac_use.specs.Asked.{IsIdleSubject, IsSubjectLine};
+ghost use Rattle.rbac_use.specs.Asked.{AreAskedAt, IsIdleSubject, IsSubjectLine};
 ghost use Rattle.rbac_use.specs.Requests.{log_of};
 ghost use Rattle.rbac_use.specs.Rules.{IsGrantLine};
 ghost use Rattle.rbac_use.specs.Unused.{IsPartLine};
 ghost use Rattle.rbac_use.specs.Used.{HasPermissions};
+ghost use Rattle.rbac_use.specs.declared.request.Request.{Request};
 ghost use Rattle.rbac_use.specs.declared.unused.Part.TheVariants.{Whole};
 
-use crate::asked::{asked_at, has_asked};
+use crate::asked::has_asked;
 use crate::request::Request;
 use crate::rules::{GrantUse, add_of_rule};
 use crate::unused::{Part, Unused};
@@ -18,24 +19,24 @@ use rbac_model::Policy;
 use rbac_terms::{Binding, Subject, Word};
 use std::alloc::{AllocError, Global};
 
-// Adds the lines of the binding at this place.
+// Adds the lines of the binding at this place, by the requests that it allows.
 pub(crate) fn add_of_binding(
     alloc: Global,
     policy: &Policy,
-    requests: &[Request<'_>],
+    asked: &[Request<'_>],
     place: usize,
     found: &mut Vec<Unused>,
 ) -> Result<(), AllocError>
     requires { place < length policy.now.held.bindings }
-    ensures { OnOk result (AddsLines (IsPartLine policy.now (log_of requests.now) place)
+    ensures { (requests : List Request) → AreAskedAt policy.now place requests asked.now
+        → OnOk result (AddsLines (IsPartLine policy.now (log_of requests) place)
         found.old.items found.new.items) }
 {
-    let asked = asked_at(alloc, policy, requests, place)?;
-    if are_none(asked.as_slice()) {
+    if are_none(asked) {
         return add_whole(policy, place, found);
     }
-    add_subjects(place, &policy.bindings()[place], asked.as_slice(), found)?;
-    add_grants(alloc, policy, place, asked.as_slice(), found)
+    add_subjects(place, &policy.bindings()[place], asked, found)?;
+    add_grants(alloc, policy, place, asked, found)
 }
 
 // Whether there are no requests.

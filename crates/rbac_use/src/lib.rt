@@ -3,9 +3,14 @@
 
 mod asked;
 mod bindings;
+mod by_binding;
+mod grouping;
 mod laws;
+mod least;
 mod line;
 mod log;
+mod needs;
+mod next_binding;
 mod permission;
 mod request;
 mod rules;
@@ -15,6 +20,7 @@ mod unused;
 mod usable;
 
 pub use laws::{rules_are_used_by_permissions, unused_lines_are_one, what_is_unused_isnt_needed};
+pub use least::{Least, NamespaceRules, least_of};
 pub use line::put_unused;
 pub use log::Log;
 pub use permission::TargetPlaces;

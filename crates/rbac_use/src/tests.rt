@@ -1,6 +1,6 @@
 //! What is unused of a small policy, by several logs.
 
-use crate::{Log, put_unused, unused_lines};
+use crate::{Log, least_of, put_unused, unused_lines};
 use rbac_model::{Object, Objects, Policy};
 use rbac_terms::{
     Binding, ClusterRole, Labels, Principal, Role, RoleRef, Rule, Rules, Subject, Subjects, Target,
@@ -286,6 +286,128 @@ fn what_is_unused_has_lines(rt: HostRuntime) {
     let alloc = rt.alloc();
     for (what, rows, skip_system, lines) in LOGS {
         let text = printed(&rt, alloc, rows, *skip_system);
+        let mut wanted = Vec::new(alloc);
+        for line in *lines {
+            built(&rt, wanted.extend_from_slice(line.as_bytes()));
+            built(&rt, wanted.push(b'\n'));
+        }
+        assert!(&rt; text.as_slice() == wanted.as_slice(), "{what}");
+    }
+}
+
+// What a log needs: what it is about, the user, whether names are kept, its requests, and the
+// printed rules: where, verbs, API groups, resources, object names and URLs.
+type NeedsRow<'a> = (&'a str, &'a str, bool, &'a [RequestRow<'a>], &'a [&'a str]);
+
+const WEB: &[RequestRow<'_>] = &[
+    ["kim", "devs", "shop", "list", "-", "pods", "-"],
+    ["kim", "-", "shop", "get", "-", "secrets", "s"],
+    ["kim", "-", "shop", "get", "-", "pods", "q"],
+    ["kim", "-", "shop", "get", "-", "pods", "p"],
+    ["kim", "-", "shop", "list", "-", "secrets", "-"],
+    ["kim", "-", "lab", "get", "-", "pods", "p"],
+    ["kim", "-", "-", "list", "-", "pods", "-"],
+    ["kim", "-", "-", "get", "-", "/metrics/x", "-"],
+    ["kim", "-", "-", "get", "-", "/healthz", "-"],
+    ["kim", "-", "shop", "delete", "-", "pods", "p"],
+    ["dan", "devs", "shop", "list", "-", "secrets", "-"],
+    ["kim", "-", "-", "get", "-", "/metrics/*", "-"],
+    ["kim", "-", "shop", "get", "*", "pods", "p"],
+];
+
+const NEEDS: &[NeedsRow<'_>] = &[
+    (
+        "without names, a rule has the resources that were asked with the same verbs",
+        "kim",
+        false,
+        WEB,
+        &[
+            "- list - pods - -",
+            "- get - - - /healthz,/metrics/x",
+            "lab get - pods - -",
+            "shop get,list - pods,secrets - -",
+        ],
+    ),
+    (
+        "with names, a rule has the names that were asked with the same verbs",
+        "kim",
+        true,
+        WEB,
+        &[
+            "- list - pods - -",
+            "- get - - - /healthz,/metrics/x",
+            "lab get - pods p -",
+            "shop list - pods - -",
+            "shop list - secrets - -",
+            "shop get - pods p,q -",
+            "shop get - secrets s -",
+        ],
+    ),
+    (
+        "another user needs what it asked for",
+        "dan",
+        true,
+        WEB,
+        &["shop list - secrets - -"],
+    ),
+    (
+        "somebody who asked for nothing needs nothing",
+        "eva",
+        true,
+        WEB,
+        &[],
+    ),
+];
+
+fn put_list(rt: &impl Abort, text: &mut Vec<u8>, words: &Words) {
+    if words.is_empty() {
+        built(rt, text.push(b'-'));
+    }
+    for (place, word) in words.as_slice().iter().enumerate() {
+        if place > 0 {
+            built(rt, text.push(b','));
+        }
+        if word.is_empty() {
+            built(rt, text.push(b'-'));
+        }
+        built(rt, text.extend_from_slice(word.as_bytes()));
+    }
+}
+
+fn put_rules(rt: &impl Abort, text: &mut Vec<u8>, namespace: &[u8], rules: &Rules) {
+    for rule in rules.as_slice() {
+        built(rt, text.extend_from_slice(namespace));
+        let lists = [
+            &rule.verbs,
+            &rule.groups,
+            &rule.resources,
+            &rule.resource_names,
+            &rule.urls,
+        ];
+        for words in lists {
+            built(rt, text.push(b' '));
+            put_list(rt, text, words);
+        }
+        built(rt, text.push(b'\n'));
+    }
+}
+
+#[test]
+fn what_is_needed_has_rules(rt: HostRuntime) {
+    let alloc = rt.alloc();
+    for (what, user, names, rows, lines) in NEEDS {
+        let policy = policy(&rt, alloc);
+        let mut log = Log::new(alloc);
+        for row in *rows {
+            add(&rt, alloc, &mut log, row);
+        }
+        let user = word(&rt, alloc, user);
+        let least = built(&rt, least_of(alloc, &policy, &log, &user, *names));
+        let mut text = Vec::new(alloc);
+        put_rules(&rt, &mut text, b"-", &least.everywhere);
+        for part in &least.namespaces {
+            put_rules(&rt, &mut text, part.namespace.as_bytes(), &part.rules);
+        }
         let mut wanted = Vec::new(alloc);
         for line in *lines {
             built(&rt, wanted.extend_from_slice(line.as_bytes()));

@@ -1,18 +1,22 @@
 //! What of a policy a log doesn't use.
 
-ghost use Rattle.std.specs.Prelude.{◌<◌, ◌↔◌, IfOk, IsTrue, OnOk, codes, length};
+ghost use Rattle.std.specs.Prelude.{◌≡◌, ◌<◌, ◌↔◌, IfOk, IsTrue, List, OnOk, codes, length};
 ghost use Rattle.rbac_terms.specs.Text.{BeginsWith};
 ghost use Rattle.rbac_model.specs.Policies.{IsPolicy};
 ghost use Rattle.rbac_use.specs.Adding.{AddsLines};
+ghost use Rattle.rbac_use.specs.Asked.{AreAskedAt};
+ghost use Rattle.rbac_use.specs.ByBinding.{AreAskedByBinding};
 ghost use Rattle.rbac_use.specs.Requests.{log_of};
 ghost use Rattle.rbac_use.specs.Unused.{AreUnused, IsUnusedAt, Keeps};
+ghost use Rattle.rbac_use.specs.declared.request.Request.{Request};
 
 use crate::bindings::add_of_binding;
+use crate::by_binding::asked_by_binding;
 use crate::log::Log;
 use crate::permission::TargetPlaces;
 use crate::request::Request;
 use rbac_model::Policy;
-use rbac_terms::Binding;
+use rbac_terms::{Binding, Items};
 use std::alloc::{AllocError, Global};
 
 // What the names of Kubernetes' own bindings begin with.
@@ -67,46 +71,50 @@ pub fn unused_lines(
     ensures policy { IfOk result (λ _. IsPolicy policy.now) }
 {
     let requests = log.requests(alloc)?;
-    lines_of(alloc, policy, requests.as_slice(), skip_system)
+    let asked = asked_by_binding(alloc, policy, requests.as_slice())?;
+    lines_of(alloc, policy, asked.as_slice(), skip_system)
 }
 
-// What of the policy none of these requests uses.
+// What of the policy is unused, by the requests that each binding allows.
 fn lines_of(
     alloc: Global,
     policy: &Policy,
-    requests: &[Request<'_>],
+    asked: &[Items<Request<'_>>],
     skip_system: bool,
 ) -> Result<Vec<Unused>, AllocError>
-    ensures unused { IfOk result
-        (λ found. AreUnused policy.now (log_of requests.now) skip_system found.items) }
+    requires { length asked.now ≡ length policy.now.held.bindings }
+    ensures unused { (requests : List Request) → AreAskedByBinding policy.now requests asked.now
+        → IfOk result (λ found. AreUnused policy.now (log_of requests) skip_system found.items) }
     ensures policy { IfOk result (λ _. IsPolicy policy.now) }
 {
     let mut found = Vec::new(alloc);
     let places = policy.bindings().len();
     for place in 0..places {
-        add_kept(alloc, policy, requests, skip_system, place, &mut found)?;
+        let own = asked[place].as_slice();
+        add_kept(alloc, policy, own, skip_system, place, &mut found)?;
     }
     Ok(found)
 }
 
-// Adds the lines of the binding at this place, unless it is left out.
+// Adds the lines of the binding at this place, which allows these requests, unless it is left out.
 fn add_kept(
     alloc: Global,
     policy: &Policy,
-    requests: &[Request<'_>],
+    asked: &[Request<'_>],
     skip_system: bool,
     place: usize,
     found: &mut Vec<Unused>,
 ) -> Result<(), AllocError>
     requires { place < length policy.now.held.bindings }
-    ensures { OnOk result (AddsLines
-        (IsUnusedAt policy.now (log_of requests.now) skip_system place)
+    ensures { (requests : List Request) → AreAskedAt policy.now place requests asked.now
+        → OnOk result (AddsLines
+        (IsUnusedAt policy.now (log_of requests) skip_system place)
         found.old.items found.new.items) }
 {
     if !is_kept(&policy.bindings()[place], skip_system) {
         return Ok(());
     }
-    add_of_binding(alloc, policy, requests, place, found)
+    add_of_binding(alloc, policy, asked, place, found)
 }
 
 // Whether the binding isn't left out.
