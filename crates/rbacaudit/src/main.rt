@@ -157,11 +157,9 @@ fn add(inputs: &mut Vec<Input>, read: Result<Input, InputFault>) -> Result<(), F
 // The requests of all logs.
 fn log_of(rt: &HostRuntime, names: &[String]) -> Result<Log, Fault> {
     let mut log = Log::new(rt.alloc());
-    let mut place = 0;
-    for name in names {
-        match read_named(rt, name.as_str(), &mut log) {
-            Ok(()) => place += 1,
-            Err(fault) => return Err(Fault::Log { place, fault }),
+    for (place, name) in names.iter().enumerate() {
+        if let Err(fault) = read_named(rt, name.as_str(), &mut log) {
+            return Err(Fault::Log { place, fault });
         }
     }
     Ok(log)
