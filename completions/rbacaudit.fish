@@ -88,7 +88,7 @@ complete -c rbacaudit -n '__rbacaudit_words -eq 0 ""' -a lint -d 'List what look
 complete -c rbacaudit -n '__rbacaudit_words -eq 0 ""' -a powers -d 'List who can act as others or gain permissions'
 complete -c rbacaudit -n '__rbacaudit_words -eq 0 ""' -a paths -d 'List whom and what WHO can take over, step by step'
 complete -c rbacaudit -n '__rbacaudit_words -eq 0 ""' -a diff -d 'List the permissions that a change gives or takes away'
-complete -c rbacaudit -n '__rbacaudit_words -eq 0 ""' -a unused -d 'List bindings, subjects'
+complete -c rbacaudit -n '__rbacaudit_words -eq 0 ""' -a unused -d 'List what no request of audit logs used, so that it can go'
 complete -c rbacaudit -n '__rbacaudit_lacks help "" can-i who-can rules matrix universe lint powers paths diff unused' -s h -l help -d 'Print help'
 complete -c rbacaudit -n '__rbacaudit_lacks version ""' -s V -l version -d 'Print version'
 complete -c rbacaudit -n '__rbacaudit_lacks as can-i' -l as -x -d 'User to check'
@@ -122,7 +122,7 @@ complete -c rbacaudit -n '__rbacaudit_lacks skip-system lint' -l skip-system -d 
 complete -c rbacaudit -n '__rbacaudit_lacks steps paths' -l steps -x -k \
     -a 'impersonate token run exec secrets nodes bind escalate certificates webhooks apiservices bootstrap volumes namespaces' \
     -d 'Only these steps count (default: all of powers)'
-complete -c rbacaudit -n '__rbacaudit_lacks to paths' -l to -x -d 'List only the path to TO, a second field of other lines'
+complete -c rbacaudit -n '__rbacaudit_lacks to paths' -l to -x -d 'List only the path to TO'
 complete -c rbacaudit -n '__rbacaudit_lacks namespace paths' -s n -l namespace -x \
     -d 'With --to, the namespace where a ClusterRole or * counts (default: the whole cluster)'
 complete -c rbacaudit -n '__rbacaudit_lacks before diff' -l before -x -k -a '(__fish_complete_suffix .json)' \
