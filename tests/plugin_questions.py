@@ -436,6 +436,7 @@ def words(it):
                        (['lint', '--export'], '--export needs a value'), (['lint', '--export='], '--export needs a value'),
                        (['lint', '--export', ''], '--export needs a value'), (['lint', '--context', ''], '--context needs a value'),
                        (['lint', '--export', '--partial'], '--export needs a value'),
+                       (['unused', '--log', '-x'], '--log needs a value; if -x is the value, write --log=-x'),
                        (['lint', '--export', 'x', '--export=y'], '--export is given twice'),
                        (['lint', '--context', 'x', '--context', 'y'], '--context is given twice'),
                        (['lint', '--kubeconfig=x', '--kubeconfig', 'y'], '--kubeconfig is given twice'),
@@ -445,8 +446,8 @@ def words(it):
         status, out, err = got = it.run(*line)
         it.checked('refused: %s' % ' '.join(line), (status, out) == (2, '') and said in err, got)
     it.checked('no line was refused after a call', not it.lines('calls'), 'a call')
-    # (diff has no option of rbacaudit)
-    dashed = [([command, name], name, '-x') for command in commands() if command != 'diff'
+    # (those of diff and unused that take a value are the plugin's own)
+    dashed = [([command, name], name, '-x') for command in commands() if command not in ('diff', 'unused')
               for names, (value, _) in options(command).items() if value for name in names]
     for line, name, value in [*dashed, (['who-can', '-A', '-n'], '-n', '--partial'),
                               (['can-i', '--as=kim', '-qAn'], '-n', '-x')]:
