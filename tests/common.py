@@ -41,6 +41,16 @@ def bare(document):
     return {field: value for field, value in document.items() if field not in ('apiVersion', 'kind')}
 
 
+def put_in(folder):
+    """What writes a file of a name into this folder, and tells its path."""
+    def put(name, given):
+        path = os.path.join(folder, name)
+        with open(path, 'wb') as file:
+            file.write(given)
+        return path
+    return put
+
+
 def checked(name, well, said=''):
     results.append(bool(well))
     print(('ok   ' if well else 'FAIL ') + name + ('' if well else ': ' + said), flush=True)

@@ -8,7 +8,7 @@ import resource
 import subprocess
 import tempfile
 
-from common import PODS, PROGRAM, V1, checked, export
+from common import PODS, PROGRAM, V1, checked, export, put_in
 
 MOST_BYTES = 67_108_864
 LITTLE = 2 ** 26
@@ -44,12 +44,7 @@ def expect(name, words, status, out=b'', fault=b'', given=b''):
 
 def log_streams():
     with tempfile.TemporaryDirectory() as room:
-        def put(name, text):
-            path = os.path.join(room, name)
-            with open(path, 'wb') as file:
-                file.write(text)
-            return path
-
+        put = put_in(room)
         roles, gets, empty, missing = put('roles', GRANTED), put('gets', GETS + b'\n'), put('empty', b''), os.path.join(room, 'missing')
         standard_input(roles, gets, empty, missing)
         refused(put, room, roles, gets, missing)

@@ -15,7 +15,7 @@ import subprocess
 import sys
 import tempfile
 
-from common import PODS, PROGRAM, TOP, V1, V1BETA1, bare, checked, export, tested
+from common import PODS, PROGRAM, TOP, V1, V1BETA1, bare, checked, export, put_in, tested
 from meaning import document_text
 from transcripts import (example_cluster, links_and_heads, loop_of_pages, spaced_bindings,
                          transcripts)
@@ -132,12 +132,7 @@ def streams():
     expect('so it has with any name', ['who-can', '--any-name', '--subresource', 'log', 'get', '/healthz'], 2,
            err=b'rbacaudit: U3 subresource with a URL\n')
     with tempfile.TemporaryDirectory() as room:
-        def put(name, text):
-            path = os.path.join(room, name)
-            with open(path, 'wb') as file:
-                file.write(text)
-            return path
-
+        put = put_in(room)
         roles = put('roles.json', listed(V1, 'RoleList', {'metadata': {'name': 'r'}, 'rules': [PODS]}))
         bindings = put('bindings.json', export(BOUND))
         missing = os.path.join(room, 'missing.json')
@@ -526,12 +521,7 @@ def unused_streams():
     both = event('alice', 'delete', objectRef={'resource': 'pods', 'namespace': 'dev', 'name': 'a'})
     twice = 'U11 --log - may be given once, and needs a FILE: standard input can be read only once'
     with tempfile.TemporaryDirectory() as room:
-        def put(name, given):
-            path = os.path.join(room, name)
-            with open(path, 'wb') as file:
-                file.write(given)
-            return path
-
+        put = put_in(room)
         given, empty, first = put('export.json', export(*items)), put('empty.log', b''), put('first.log', log_of(other, used))
         second, bad = put('second.log', log_of(both).rstrip()), put('bad.log', log_of(used, other) + b'{}\n' + log_of(both))
         for name, log, status, lines in (('an empty log', b'', 1, whole), ('blank lines', b'\n \r\n\t\n', 1, whole), ('others', log_of(other), 1, whole),
