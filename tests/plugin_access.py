@@ -221,9 +221,10 @@ def statuses(it):
     """What is refused, what is said beside it, and exports that lack a part."""
     it.run('export', 'prod')
     it.lines('calls')
-    for words, said in ((['u:x', '-o', 'tsv'], REFUSED % 'tsv'), (['u:x', '-o', 'name'], REFUSED % 'name'), (['u:x', '-o'], 'kubectl-rbacaudit: -o needs a value\n')):
+    for words, said in ((['u:x', '-o', 'tsv'], REFUSED % 'tsv'), (['u:x', '-o', 'name'], REFUSED % 'name'), (['u:x', '-o'], 'kubectl-rbacaudit: -o needs a value\n'),
+                        ([], 'kubectl-rbacaudit: access needs <WHO>, which is u:NAME or g:NAME; kubectl rbacaudit access --help says more\n')):
         it.expect('refused: access %s' % words, ['access', *words], 2, '', said)
-    for words, said in ((['kim'], 'U5'), (['g:dev', '--groups', 'x'], 'U5'), ([], '<WHO>'), (['--why', 'u:x'], '--why')):
+    for words, said in ((['kim'], 'U5'), (['g:dev', '--groups', 'x'], 'U5'), (['--why', 'u:x'], '--why')):
         status, out, err = got = it.run('access', *words)
         it.checked('refused: access %s' % words, (status, out) == (2, '') and said in err, got)
     it.checked('asks no cluster', not it.lines('calls'), 'calls')

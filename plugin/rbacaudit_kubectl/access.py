@@ -162,6 +162,8 @@ def access_command(session: Session, words: list[str]) -> int:
         print_text(help_of('access'))
         return 0
     choose_format(options, 'access')
+    if not question.places:
+        raise Refused('access needs <WHO>, which is u:NAME or g:NAME; kubectl rbacaudit access --help says more')
     session.need_rbacaudit()
     question.command = 'rules'
     check_cluster(session, options)
