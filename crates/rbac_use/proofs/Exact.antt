@@ -16,7 +16,7 @@ module _ {X : Type 0} (R : X → X → Type 0) where
   tail_pairs : (x : X) (xs : List X) → AllPairs R (x ∷ xs) → AllPairs R xs
   tail_pairs x xs p i j d lt l = p (suc i) (suc j) d (omega (arith, lt)) (omega (arith, l))
 
-  all_pairs_append : (xs ys : List X) → AllPairs R xs → AllPairs R ys → ((x y : X) → Contains xs x → Contains ys y → R x y) → AllPairs R (xs ++ ys)
+  pub all_pairs_append : (xs ys : List X) → AllPairs R xs → AllPairs R ys → ((x y : X) → Contains xs x → Contains ys y → R x y) → AllPairs R (xs ++ ys)
   all_pairs_append [] ys p q cross = q
   all_pairs_append (x ∷ xs) ys p q cross =
       AllPairs-cons R x (xs ++ ys)

@@ -1,7 +1,8 @@
 -- The rules of a least policy allow exactly what is needed.
-use Rattle.std.proofs.Common.{◌≡◌, ◌≢◌, ◌↔◌, ◌∙◌, ◌<◌, [], ◌∷◌, ℕ, All, Any, Bool, Contains, List, Option, ap, arith, false, get_or, inl, inr, length, refl, subst, suc, sym, true, zero}
+use Rattle.std.proofs.Common.{◌≡◌, ◌≢◌, ◌↔◌, ◌∙◌, [], ◌∷◌, Any, Bool, Contains, List, None, Option, Some, ap, arith, false, inl, inr, length, refl, subst, sym, true}
 use Rattle.std.specs.Prelude.{codes}
-use Rattle.std.proofs.lemmas.List.Elements.{All-get_or}
+use Rattle.std.proofs.lemmas.List.Elements.{All-contains}
+use Rattle.std.proofs.lemmas.Option.{same_Some}
 use Rattle.rbac_terms.specs.Text.{Text, BeginsWith}
 use Rattle.rbac_terms.specs.Targets.{What, Resource, Url}
 use Rattle.rbac_terms.specs.Matching.{EndsInStar, NameMatches, ResourceWordMatches, RuleAllows, UrlWordMatches, WordMatches}
@@ -9,70 +10,95 @@ use Rattle.rbac_terms.specs.declared.matching.Rule.{Rule}
 use Rattle.rbac_model.specs.Policies.{Live, PolicyView}
 use Rattle.rbac_model.proofs.OwnWords.{any_from}
 use Rattle.rbac_diff.specs.Requests.{RequestView}
-use Rattle.rbac_use.specs.Grouping.{HasWord, under}
-use Rattle.rbac_use.specs.Least.{AllowsNeeded, HasRuleIn, IsAlike, Lets, home_at, home_of}
-use Rattle.rbac_use.specs.LeastRules.{IsRuleOf, IsTurned, key_of, kind_rule, pair_of, rule_of, target_key, with_words}
+use Rattle.rbac_use.specs.Least.{AllowsNeeded, HasRuleIn, IsAlike, home_at, home_of}
+use Rattle.rbac_use.specs.LeastRules.{AreByVerbs, HasRulesOf, HasSameVerbs, HaveSameRules, IsAsked, IsLeastOf, IsPartOf, key_of, kind_rule, part_of, rule_of, rules_in, target_key, with_words}
 use Rattle.rbac_use.specs.Needs.{IsNeeded, IsPlainTarget}
-use Rattle.rbac_use.specs.Requests.{log_of, request_of}
 use Rattle.rbac_use.specs.declared.grouping.Group.{Group}
 use Rattle.rbac_use.specs.declared.grouping.Kind.{Kind}
 use Rattle.rbac_use.specs.declared.grouping.Kind.TheVariants.{AnyName, Names, Resources, Urls}
-use Rattle.rbac_use.specs.declared.grouping.Pair.{Pair}
 use Rattle.rbac_use.specs.declared.grouping.RuleKey.{RuleKey}
 use Rattle.rbac_use.specs.declared.least.Least.{Least}
-use Rattle.rbac_use.specs.declared.request.Request.{Request}
-use Rattle.rbac_use.proofs.AskedOf.{in_log, of_log}
+use Rattle.rbac_use.specs.declared.least.NamespaceRules.{NamespaceRules}
+use Rattle.rbac_use.proofs.ByVerbs.{one_by_verbs, word_of_target}
 use Rattle.rbac_use.proofs.NeededRequests.{star_at_end}
+use Rattle.rbac_use.proofs.Parts.{one_parts, rule_in}
+use Rattle.rbac_use.proofs.Pushed.{a_word, only_at}
 
 -- ---- from requests to groups of words, and back
 
-module _ (names : Bool) (requests : List Request) (asked : List Pair) (verbs : List Group) (turned : List Pair) (groups : List Group) where
-  -- each step has what the one before gives
-  pub record AreSteps : Type 0 where
-    pub asked_are : (x : Pair) → Contains asked x ↔ Any (λ q. pair_of names (request_of q) ≡ x) requests
-    pub by_target : (k : RuleKey) (word : Text) → HasWord verbs k word ↔ Contains asked (under k word)
-    pub turned_are : (x : Pair) → Contains turned x ↔ Any (λ g. IsTurned g x) verbs
-    pub by_verbs : (k : RuleKey) (word : Text) → HasWord groups k word ↔ Contains turned (under k word)
+-- the request has these words: a verb under the words of its target
+record HasWords (names : Bool) (k : RuleKey) (verb item : Text) (r : RequestView) : Type 0 where
+  verb_is : r.verb ≡ verb
+  key_is : with_words (key_of names r) k.words ≡ k
+  item_is : Contains (key_of names r).words item
 
-  -- the request has these words: a verb under the words of its target
-  pub record HasWords (k : RuleKey) (verb item : Text) (r : RequestView) : Type 0 where
-    pub verb_is : r.verb ≡ verb
-    pub key_is : with_words (key_of names r) k.words ≡ k
-    pub item_is : Contains (key_of names r).words item
+module _ (p : PolicyView) (log : List RequestView) (user : Text) (names : Bool) (groups : List Group) (are : AreByVerbs (IsAsked p log user names) groups) where
+  same_verbs : (g : Group) → Contains groups g → HasSameVerbs (IsAsked p log user names) g
+  same_verbs g c = All-contains (HasSameVerbs (IsAsked p log user names)) groups g are.each c
 
-  module _ (steps : AreSteps) where
-    pub request_from : (g : Group) → Contains groups g → (verb item : Text) → Contains g.key.words verb → Contains g.words item → (q : Request) × Contains requests q × HasWords g.key verb item (request_of q)
-    request_from g c verb item has_verb has_item =
-        let t = (steps.turned_are (under g.key item)).0 ((steps.by_verbs g.key item).0 (any_from (λ (x : Group). (x.key ≡ g.key) × Contains x.words item) groups g c (refl, has_item))) in
-        let h = t.1 in
-        let words : h.words ≡ g.key.words = ap (λ (k : RuleKey). k.words) t.4.1 in
-        let a = (steps.asked_are (under h.key verb)).0 ((steps.by_target h.key verb).0 (any_from (λ (x : Group). (x.key ≡ h.key) × Contains x.words verb) verbs h (t.0, t.2, t.3) (refl, subst (λ (ws : List Text). Contains ws verb) (sym words) has_verb))) in
-        let q = a.1 in
-        let same : key_of names (request_of q) ≡ h.key = ap (λ (x : Pair). x.key) a.4 in (
-          q,
-          (a.0, a.2, a.3),
-          record {
-            verb_is = ap (λ (x : Pair). x.word) a.4;
-            key_is = ap (λ (k : RuleKey). with_words k g.key.words) same ∙ ap (λ (ws : List Text). with_words h.key ws) (sym words) ∙ t.4.1;
-            item_is = subst (λ (k : RuleKey). Contains k.words item) (sym same) t.4.0;
-          },
-        )
+  request_from : (g : Group) → Contains groups g → (verb item : Text) → Contains g.key.words verb → Contains g.words item → (r : RequestView) × IsNeeded p log user r × HasWords names g.key verb item r
+  request_from g c verb item has_verb has_item =
+      let a = (((same_verbs g c).exact item).0 has_item verb).0 has_verb in (
+        a.0,
+        a.1,
+        record {
+          verb_is = a.2;
+          key_is = ap (λ (k : RuleKey). with_words k g.key.words) a.3;
+          item_is = subst (λ (k : RuleKey). Contains k.words item) (sym a.3) (0, omega arith, refl);
+        },
+      )
 
-    pub group_for : (q : Request) → Contains requests q → (item : Text) → Contains (key_of names (request_of q)).words item → (g : Group) × Contains groups g × Contains g.key.words q.verb.now × Contains g.words item × (with_words (key_of names (request_of q)) g.key.words ≡ g.key)
-    group_for q c item has_item =
-        let k = key_of names (request_of q) in
-        let a = (steps.by_target k q.verb.now).1 ((steps.asked_are (under k q.verb.now)).1 (any_from (λ (x : Request). pair_of names (request_of x) ≡ under k q.verb.now) requests q c refl)) in
-        let h = a.1 in
-        let turned_key = with_words h.key h.words in
-        let b = (steps.by_verbs turned_key item).1 ((steps.turned_are (under turned_key item)).1 (any_from (λ (x : Group). IsTurned x (under turned_key item)) verbs h (a.0, a.2, a.3) (subst (λ (x : RuleKey). Contains x.words item) (sym a.4.0) has_item, refl))) in
-        let g = b.1 in
-        let words : g.key.words ≡ h.words = ap (λ (x : RuleKey). x.words) b.4.0 in (
-          g,
-          (b.0, b.2, b.3),
-          subst (λ (ws : List Text). Contains ws q.verb.now) (sym words) a.4.1,
-          b.4.1,
-          ap (λ (x : RuleKey). with_words x g.key.words) (sym a.4.0) ∙ ap (λ (ws : List Text). with_words h.key ws) words ∙ sym b.4.0,
-        )
+  group_for : (r : RequestView) → IsNeeded p log user r → (item : Text) → Contains (key_of names r).words item → (g : Group) × Contains groups g × Contains g.key.words r.verb × Contains g.words item × (with_words (key_of names r) g.key.words ≡ g.key)
+  group_for r is item has_item =
+      let w = are.all (key_of names r) item r.verb (r, is, refl, word_of_target names r item has_item) in
+      (w.1, (w.0, w.2, w.3), w.4.2, w.4.1, w.4.0)
+
+-- ---- which rules a least policy has, and where
+
+-- the rule for a group, and where it is bound
+abbrev IsRuleOf : Option Text → Rule → Group → Type 0
+IsRuleOf home rule g = (home_at g.key.namespace ≡ home) × (rule_of g ≡ rule)
+
+home_some : (n : Text) → n ≢ [] → home_at n ≡ Some n
+home_some [] not = absurd (not refl)
+home_some (a ∷ n) not = refl
+
+home_none : (n : Text) → home_at n ≡ None → n ≡ []
+home_none [] e = refl
+home_none (a ∷ n) e = absurd (let both : Some (a ∷ n) ≡ None = e in cc)
+
+home_named : (n m : Text) → home_at n ≡ Some m → (n ≢ []) × (n ≡ m)
+home_named [] m e = absurd (let both : None ≡ Some m = e in cc)
+home_named (a ∷ n) m e = (λ none. omega (arith, ap length none), same_Some (a ∷ n) m e)
+
+rules_are : (groups : List Group) (l : Least) → HasRulesOf groups l → (home : Option Text) (rule : Rule) → HasRuleIn l home rule ↔ Any (IsRuleOf home rule) groups
+rules_are groups l has None rule = (
+  λ c.
+      (let w = (rule_in [] rule groups).0 (subst (λ (rs : List Rule). Contains rs rule) has.0 c) in
+      any_from (IsRuleOf None rule) groups w.1 (w.0, w.2, w.3) (ap home_at w.4.0, w.4.1)),
+  λ w.
+      (let c = (rule_in [] rule groups).1 (any_from (λ (g : Group). (g.key.namespace ≡ []) × (rule_of g ≡ rule)) groups w.1 (w.0, w.2, w.3) (home_none w.1.key.namespace w.4.0, w.4.1)) in
+      subst (λ (rs : List Rule). Contains rs rule) (sym has.0) c),
+)
+rules_are groups l has (Some n) rule = (
+  λ h.
+      (let part = h.1 in
+      let p = (has.1.exact part).0 (h.0, h.2, h.3) in
+      let w = (rule_in part.namespace rule groups).0 (subst (λ (rs : List Rule). Contains rs rule) p.rules h.4.1) in
+      let home : home_at w.1.key.namespace ≡ Some n = ap home_at w.4.0 ∙ home_some part.namespace p.named ∙ ap (λ (t : Text). Some t) h.4.0 in
+      any_from (IsRuleOf (Some n) rule) groups w.1 (w.0, w.2, w.3) (home, w.4.1)),
+  λ w.
+      (let at = home_named w.1.key.namespace n w.4.0 in
+      let part = part_of n (rules_in n groups) in
+      let there : Contains groups w.1 = (w.0, w.2, w.3) in
+      let is : IsPartOf groups part = record {
+        named = λ none. at.0 (at.1 ∙ none);
+        some = any_from (λ (g : Group). g.key.namespace ≡ n) groups w.1 there at.1;
+        rules = refl;
+      } in
+      let c = (rule_in n rule groups).1 (any_from (λ (g : Group). (g.key.namespace ≡ n) × (rule_of g ≡ rule)) groups w.1 there (at.1, w.4.1)) in
+      any_from (λ (x : NamespaceRules). (x.namespace ≡ n) × Contains x.rules rule) l.namespaces.items part ((has.1.exact part).1 is) (refl, c)),
+)
 
 -- ---- what a rule of these words allows
 
@@ -96,19 +122,11 @@ pub record WordsMatch (kind : Kind) (k : RuleKey) (words : List Text) (v : Text)
 none_of : {X : Type 0} (P : X → Type 0) → Any P [] → ⊥
 none_of P w = omega (arith, w.2)
 
-only_at : {X : Type 0} (x y : X) (k : ℕ) → k < 1 → get_or (x ∷ []) k y ≡ y → x ≡ y
-only_at x y zero low e = e
-only_at x y (suc k) low e = absurd (omega arith)
-
 only : {X : Type 0} (P : X → Type 0) (x : X) → Any P (x ∷ []) → P x
 only P x w = subst P (sym (only_at x w.1 w.0 w.2 w.3)) w.4
 
 alone : {X : Type 0} (P : X → Type 0) (x : X) → P x → Any P (x ∷ [])
 alone P x h = (0, x, omega arith, refl, h)
-
-a_word : (words : List Text) → words ≢ [] → (w : Text) × Contains words w
-a_word [] not = absurd (not refl)
-a_word (w ∷ words) not = (w, (0, omega arith, refl))
 
 names_match : (words : List Text) (name : Text) → words ≢ [] → NameMatches words name → Contains words name
 names_match words name not (inl e) = absurd (not e)
@@ -206,7 +224,7 @@ abbrev Matches : Bool → Text → What → Text → What → Type 0
 Matches names namespace wanted item t = ItemMatches (target_key names namespace wanted).kind (target_key names namespace wanted) item t
 
 alike : (names : Bool) (namespace : Text) (wanted t : What) → IsPlainTarget wanted → (item : Text) → Contains (target_key names namespace wanted).words item → Matches names namespace wanted item t → IsAlike names wanted t
-alike names namespace (Url path) (Url p) plain item c m = sym (plain_url path p plain (subst (λ (w : Text). UrlWordMatches w p) (sym (only_at path item c.0 c.1 c.2)) m))
+alike names namespace (Url path) (Url p) plain item c m = sym (plain_url path p plain.0 (subst (λ (w : Text). UrlWordMatches w p) (sym (only_at path item c.0 c.1 c.2)) m))
 alike names namespace (Url path) (Resource h y n) plain item c m = absurd m
 alike true namespace (Resource g x []) (Resource h y n) plain item c m = (
   sym (plain_word g h plain.0 m.0),
@@ -259,41 +277,36 @@ home_is false namespace (Resource group text name) = refl
 
 -- ---- all steps together
 
-pub allows_needed : (p : PolicyView) (log : List RequestView) (user : Text) (names : Bool) (requests : List Request) (asked : List Pair) (verbs : List Group) (turned : List Pair) (groups : List Group) (least : Least) → AreSteps names requests asked verbs turned groups
-    → ((r : RequestView) → Contains (log_of requests) r ↔ IsNeeded p log user r) → All (λ (g : Group). g.words ≢ []) groups → ((home : Option Text) (rule : Rule) → HasRuleIn least home rule ↔ Any (IsRuleOf home rule) groups) → AllowsNeeded p log user names least
-allows_needed p log user names requests asked verbs turned groups least steps needed some rules namespace v t = (
+pub allows_needed : (p : PolicyView) (log : List RequestView) (user : Text) (names : Bool) (least : Least) → IsLeastOf p log user names least → AllowsNeeded p log user names least
+allows_needed p log user names least (groups, are, has) namespace v t = (
   λ allowed.
       (let home = allowed.0 in
-      let w = (rules home allowed.1).0 allowed.2 in
+      let w = (rules_are groups least has home allowed.1).0 allowed.2 in
       let g = w.1 in
       let c : Contains groups g = (w.0, w.2, w.3) in
-      let not : g.words ≢ [] = subst (λ (x : Group). x.words ≢ []) w.3 (All-get_or (λ (x : Group). x.words ≢ []) groups w.0 g w.2 some) in
+      let not : g.words ≢ [] = (same_verbs p log user names groups are g c).words.some in
       let m = words_of_rule g.key g.words v g.key.kind t not (subst (λ (rule : Rule). RuleAllows rule v t) (sym w.4.1) allowed.4) in
-      let f = request_from names requests asked verbs turned groups steps g c m.verb m.item m.has_verb m.has_item in
-      let r = request_of f.0 in
+      let f = request_from p log user names groups are g c m.verb m.item m.has_verb m.has_item in
+      let r = f.0 in
       let k = key_of names r in
-      let has = f.2 in
-      let logged = in_log (λ (x : RequestView). x ≡ r) requests f.0 f.1 refl in
-      let is = (needed r).0 (subst (λ (x : RequestView). Contains (log_of requests) x) logged.4 (logged.0, logged.2, logged.3)) in
-      let verb : m.verb ≡ v = plain_word m.verb v (λ e. is.1.written.0 (has.verb_is ∙ e)) m.verb_matches in
-      let matches = (same_item k.kind k g.key.words m.item t).0 (subst (λ (x : RuleKey). ItemMatches x.kind x m.item t) (sym has.key_is) m.item_matches) in
-      let bound : home ≡ home_of r.namespace r.target = sym w.4.0 ∙ ap (λ (x : RuleKey). home_at x.namespace) (sym has.key_is) ∙ home_is names r.namespace r.target in (
+      let is = f.1 in
+      let has_words = f.2 in
+      let verb : m.verb ≡ v = plain_word m.verb v (λ e. is.1.written.0 (has_words.verb_is ∙ e)) m.verb_matches in
+      let matches = (same_item k.kind k g.key.words m.item t).0 (subst (λ (x : RuleKey). ItemMatches x.kind x m.item t) (sym has_words.key_is) m.item_matches) in
+      let bound : home ≡ home_of r.namespace r.target = sym w.4.0 ∙ ap (λ (x : RuleKey). home_at x.namespace) (sym has_words.key_is) ∙ home_is names r.namespace r.target in (
         r,
         is,
         (
-          sym (has.verb_is ∙ verb),
-          alike names r.namespace r.target t is.1.written.1 m.item has.item_is matches,
+          sym (has_words.verb_is ∙ verb),
+          alike names r.namespace r.target t is.1.written.1 m.item has_words.item_is matches,
           subst (λ (o : Option Text). Live o namespace t) bound allowed.3,
         ),
       )),
   λ lets.
-      (let r = lets.0 in
-      let c = (needed r).1 lets.1 in
-      let q = of_log (λ (x : RequestView). x ≡ r) requests (c.0, r, c.1, c.2, refl) in
-      let s = request_of q.0 in
-      let by = subst (λ (x : RequestView). Lets names x namespace v t) (sym q.2) lets.2 in
+      (let s = lets.0 in
+      let by = lets.2 in
       let m = matched names s.namespace s.target t by.1 in
-      let f = group_for names requests asked verbs turned groups steps q.0 q.1 m.0 m.1 in
+      let f = group_for p log user names groups are s lets.1 m.0 m.1 in
       let g = f.0 in
       let k = key_of names s in
       let home = home_of s.namespace s.target in
@@ -301,7 +314,7 @@ allows_needed p log user names requests asked verbs turned groups least steps ne
       let matches = subst (λ (x : RuleKey). ItemMatches x.kind x m.0 t) f.4 ((same_item k.kind k g.key.words m.0 t).1 m.2) in (
         home,
         rule_of g,
-        (rules home (rule_of g)).1 (any_from (IsRuleOf home (rule_of g)) groups g f.1 (bound, refl)),
+        (rules_are groups least has home (rule_of g)).1 (any_from (IsRuleOf home (rule_of g)) groups g f.1 (bound, refl)),
         by.2,
         rule_of_words g.key g.words v g.key.kind t (record {
           verb = s.verb;
@@ -313,3 +326,11 @@ allows_needed p log user names requests asked verbs turned groups least steps ne
         }),
       )),
 )
+
+-- ---- the requests alone decide
+
+pub one_least : (p : PolicyView) (log other : List RequestView) (user : Text) (names : Bool) (a b : Least) → ((r : RequestView) → Contains log r ↔ Contains other r) → IsLeastOf p log user names a → IsLeastOf p other user names b → HaveSameRules a b
+one_least p log other user names a b same (gs, are, has) (hs, also, too) =
+    let groups : gs ≡ hs = one_by_verbs p log other user names gs hs same are also in
+    let now : HasRulesOf hs a = subst (λ (xs : List Group). HasRulesOf xs a) groups has in
+    (now.0 ∙ sym too.0, one_parts hs a.namespaces.items b.namespaces.items now.1 too.1)

@@ -2,6 +2,7 @@ pub mod Allowing
 pub mod AskedOf
 pub mod BindingLines
 pub mod ByBinding
+pub mod ByVerbs
 pub mod CanMatch
 pub mod Exact
 pub mod FirstPlaces
@@ -14,7 +15,9 @@ pub mod Needed
 pub mod NeededRequests
 pub mod NextAllowing
 pub mod PartLines
+pub mod Parts
 pub mod Places
+pub mod Pushed
 pub mod RuleLines
 pub mod SubjectLines
 pub mod Words

@@ -1,10 +1,11 @@
 -- Words under keys, and the groups of those under the same key.
-use Rattle.std.specs.Prelude.{◌≡◌, ◌≢◌, ◌⊎◌, ◌↔◌, List, [], ◌∷◌, All, Any, Contains, codes, refl}
+use Rattle.std.specs.Prelude.{◌≡◌, ◌≢◌, ◌↔◌, List, [], ◌∷◌, All, AllPairs, Any, Contains, codes, refl}
 use Rattle.std.specs.Cmp.{IsEquivalence, IsPartialOrder, IsTotalOrder}
 use Rattle.std.specs.Cmp.{partial_order_from_agreeing_total}
 use Rattle.std.specs.Cmp.Lexicographic.{slice_cmp}
 use Rattle.std.specs.Ordering.{as_partial_cmp, eq_by_cmp, ordering_then}
 use Rattle.std.specs.declared.cmp.Ordering.{Ordering}
+use Rattle.std.specs.declared.cmp.Ordering.TheVariants.{Less}
 use Rattle.std.proofs.lemmas.Cmp.{eq_by_cmp_equiv, lists_total, nat_list_cmp_total, on_total, then_total}
 use Rattle.rbac_terms.specs.Text.{Text, text_cmp}
 use Rattle.rbac_use.specs.declared.grouping.Group.{Group}
@@ -52,12 +53,25 @@ pair_cmp_partial = partial_order_from_agreeing_total pair_cmp pair_cmp_total (λ
 abbrev pub under : RuleKey → Text → Pair
 under key word = record { key = key; word = word }
 
+-- the group of these words under the key
+abbrev pub group_of : RuleKey → List Text → Group
+group_of key words = record { key = key; words = words }
+
 -- a group has the word under the key
 abbrev pub HasWord : List Group → RuleKey → Text → Type 0
 HasWord groups key word = Any (λ g. (g.key ≡ key) × Contains g.words word) groups
 
--- new groups have the pair's word, and those that the old ones have; none is empty
-pub record AddsWord (pair : Pair) (old new : List Group) : Type 0 where
-  pub each : (key : RuleKey) (word : Text)
-      → HasWord new key word ↔ (HasWord old key word ⊎ (under key word ≡ pair))
-  pub some : All (λ g. g.words ≢ []) new
+-- some words, each once, in byte order
+pub record AreWords (words : List Text) : Type 0 where
+  pub some : words ≢ []
+  pub ordered : AllPairs (λ a b. text_cmp a b ≡ Less) words
+
+-- each group comes before all later ones, by its key
+abbrev pub AreInOrder : List Group → Type 0
+AreInOrder groups = AllPairs (λ a b. key_cmp a.key b.key ≡ Less) groups
+
+-- exactly the pairs with the property, in groups: each key once, in order, with all words under it
+pub record AreGrouped (P : Pair → Type 0) (groups : List Group) : Type 0 where
+  pub ordered : AreInOrder groups
+  pub each : All (λ g. AreWords g.words) groups
+  pub exact : (key : RuleKey) (word : Text) → HasWord groups key word ↔ P (under key word)

@@ -1,5 +1,6 @@
 -- What a user needs.
 use Rattle.std.specs.Prelude.{◌≢◌, ◌↔◌, List, Contains, codes}
+use Rattle.std.specs.Str.{IsUtf8}
 use Rattle.rbac_terms.specs.Text.{Text, BeginsWith}
 use Rattle.rbac_terms.specs.Targets.{What, Resource, Url}
 use Rattle.rbac_terms.specs.Principals.{IsUserNamed}
@@ -9,14 +10,15 @@ use Rattle.rbac_diff.specs.Requests.{AllowsRequest, RequestView}
 use Rattle.rbac_use.specs.Requests.{request_of}
 use Rattle.rbac_use.specs.declared.request.Request.{Request}
 
--- no word of the target is a wildcard in a rule
+-- no word of the target is a wildcard in a rule, and JSON can carry its path (RFC 8259, 8.1): the
+-- other words of a log come from JSON
 abbrev pub IsPlainTarget : What → Type 0
 IsPlainTarget (Resource group text name) = (group ≢ codes "*") × (text ≢ codes "*")
     × (¬ BeginsWith text (codes "*/"))
-IsPlainTarget (Url path) = ¬ EndsInStar path
+IsPlainTarget (Url path) = (¬ EndsInStar path) × IsUtf8 path
 
 -- a rule can allow this verb on this target alone: as a word of a rule, none of their words is a
--- wildcard (own)
+-- wildcard, and a document can have the rule (own)
 abbrev pub CanBeWritten : Text → What → Type 0
 CanBeWritten verb t = (verb ≢ codes "*") × IsPlainTarget t
 

@@ -1,10 +1,11 @@
 //! Words under keys, and the groups of those under the same key.
 
-ghost use Rattle.std.specs.Prelude.{◌≡◌, ◌≢◌, ◌↔◌, [], All, Contains, IfOk, IsTrue, OnOk};
-ghost use Rattle.rbac_terms.specs.Text.{Text};
-ghost use Rattle.rbac_use.specs.Grouping.{AddsWord, HasWord, key_cmp, kind_text, under};
+ghost use Rattle.std.specs.Prelude.{◌≡◌, ◌↔◌, ◌++◌, ◌∷◌, [], AllPairs, Contains, IfOk};
+ghost use Rattle.std.specs.Prelude.{IsTrue, List, OnOk};
+ghost use Rattle.std.specs.declared.cmp.Ordering.TheVariants.{Less};
+ghost use Rattle.rbac_use.specs.Grouping.{AreGrouped, group_of, key_cmp, kind_text, pair_cmp};
 ghost use Rattle.rbac_use.specs.LeastRules.{with_words};
-ghost use Rattle.rbac_use.specs.declared.grouping.RuleKey.{RuleKey};
+ghost use Rattle.rbac_use.specs.declared.grouping.Pair.{Pair};
 
 use rbac_terms::{Word, Words};
 use std::alloc::{AllocError, Global};
@@ -130,9 +131,7 @@ fn kind_of(kind: Kind) -> &'static [u8]
 
 // The words by their keys: each key once, in order, with its words, each once, in byte order.
 pub(crate) fn grouped(alloc: Global, mut pairs: Vec<Pair>) -> Result<Vec<Group>, AllocError>
-    ensures exact { IfOk result (λ groups. (key : RuleKey) (word : Text)
-        → HasWord groups.items key word ↔ Contains pairs.items (under key word)) }
-    ensures some { IfOk result (λ groups. All (λ g. g.words ≢ []) groups.items) }
+    ensures { IfOk result (λ groups. AreGrouped (λ x. Contains pairs.items x) groups.items) }
 {
     pairs.sort_unstable();
     pairs.dedup();
@@ -143,16 +142,30 @@ pub(crate) fn grouped(alloc: Global, mut pairs: Vec<Pair>) -> Result<Vec<Group>,
     Ok(groups)
 }
 
-// Adds the word to the last group, if that has its key, and otherwise to a new one.
+// Adds a pair that comes after all others: the word to the last group, if that has its key, and
+// otherwise to a new one.
 fn add_word(alloc: Global, pair: &Pair, groups: &mut Vec<Group>) -> Result<(), AllocError>
-    requires { All (λ g. g.words ≢ []) groups.old.items }
-    ensures { OnOk result (AddsWord pair.now groups.old.items groups.new.items) }
+    ensures { (done : List Pair) → AreGrouped (λ x. Contains done x) groups.old.items
+        → AllPairs (λ a b. pair_cmp a b ≡ Less) (done ++ pair.now ∷ [])
+        → OnOk result
+        (AreGrouped (λ x. Contains (done ++ pair.now ∷ []) x) groups.new.items) }
 {
     let count = groups.as_slice().len();
-    if count > 0 && is_same(&groups[count - 1].key, &pair.key) {
+    if count == 0 {
+        return add_group(alloc, pair, groups);
+    }
+    if is_same(&groups[count - 1].key, &pair.key) {
         groups[count - 1].words.push(pair.word.clone()?)?;
         return Ok(());
     }
+    add_group(alloc, pair, groups)
+}
+
+// Adds a group of the pair alone.
+fn add_group(alloc: Global, pair: &Pair, groups: &mut Vec<Group>) -> Result<(), AllocError>
+    ensures { OnOk result (groups.new.items
+        ≡ groups.old.items ++ group_of pair.now.key (pair.now.word ∷ []) ∷ []) }
+{
     let mut words = Words::new(alloc);
     words.push(pair.word.clone()?)?;
     groups.push(Group {

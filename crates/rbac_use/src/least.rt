@@ -1,12 +1,13 @@
 //! The least policy of one user: rules that allow what the user needs, and nothing else.
 
-ghost use Rattle.std.specs.Prelude.{◌≡◌, ◌⊎◌, ◌↔◌, ◌∷◌, [], Any, Contains, IfOk, IsTrue, OnOk, Option};
-ghost use Rattle.rbac_terms.specs.Text.{Text};
-ghost use Rattle.rbac_terms.specs.declared.matching.Rule.{Rule};
-ghost use Rattle.rbac_use.specs.Least.{AllowsNeeded, HasRuleIn};
-ghost use Rattle.rbac_use.specs.LeastRules.{AddsRule, IsRuleOf, IsTurned, key_of, kind_for};
-ghost use Rattle.rbac_use.specs.LeastRules.{name_rule, pair_of, rule_of};
+ghost use Rattle.std.specs.Prelude.{◌≡◌, ◌≢◌, ◌⊎◌, ◌↔◌, ◌++◌, ◌∷◌, [], Any, Contains, IfOk};
+ghost use Rattle.std.specs.Prelude.{IsTrue, List, OnOk};
+ghost use Rattle.rbac_use.specs.Grouping.{AreInOrder};
+ghost use Rattle.rbac_use.specs.Least.{AllowsNeeded};
+ghost use Rattle.rbac_use.specs.LeastRules.{ArePartsOf, HasRulesOf, IsLeastOf, IsTurned, key_of};
+ghost use Rattle.rbac_use.specs.LeastRules.{kind_for, name_rule, pair_of, part_of, rule_of};
 ghost use Rattle.rbac_use.specs.Requests.{request_of};
+ghost use Rattle.rbac_use.specs.declared.grouping.Group.{Group};
 ghost use Rattle.rbac_use.specs.declared.grouping.Pair.{Pair};
 
 use crate::grouping::{Group, Kind, Pair, RuleKey, grouped, with_words};
@@ -41,7 +42,9 @@ pub struct Least {
 /// API group, or the URLs, that were asked for with the same verbs; with `names`, one resource and
 /// the object names that were asked for with the same verbs. Requests without a name have rules
 /// without names, which allow any. The verbs, resources, object names and URLs of a rule are in byte
-/// order. Fails only if it runs out of memory.
+/// order. So are namespaces; and rules are in order of their kind, which is any name, names,
+/// resources and URLs, then of the API group, the resource with `names`, and the verbs. Fails only
+/// if it runs out of memory.
 pub fn least_of(
     alloc: Global,
     policy: &Policy,
@@ -49,7 +52,8 @@ pub fn least_of(
     user: &Word,
     names: bool,
 ) -> Result<Least, AllocError>
-    ensures { IfOk result (λ least. AllowsNeeded policy.now log.now user.now names least) }
+    ensures least { IfOk result (λ least. IsLeastOf policy.now log.now user.now names least) }
+    ensures needed { IfOk result (λ least. AllowsNeeded policy.now log.now user.now names least) }
 {
     let requests = needed(alloc, policy, log, user)?;
     let verbs = grouped(alloc, asked_pairs(alloc, requests.as_slice(), names)?)?;
@@ -163,16 +167,15 @@ fn add_turned(group: &Group, pairs: &mut Vec<Pair>) -> Result<(), AllocError>
 
 // The rules of these groups of words under verbs.
 fn least_from(alloc: Global, groups: &[Group]) -> Result<Least, AllocError>
-    ensures { IfOk result (λ least. (home : Option Text) (rule : Rule)
-        → HasRuleIn least home rule ↔ Any (IsRuleOf home rule) groups.now) }
+    requires { AreInOrder groups.now }
+    ensures { IfOk result (HasRulesOf groups.now) }
 {
     let mut least = Least {
         everywhere: Rules::new(alloc),
         namespaces: Vec::new(alloc),
     };
     for group in groups {
-        let rule = rule_of(alloc, group)?;
-        add_rule(alloc, &group.key.namespace, rule, &mut least)?;
+        add_rule(alloc, group, &mut least)?;
     }
     Ok(least)
 }
@@ -217,28 +220,58 @@ fn on_resource(alloc: Global, key: &RuleKey, verbs: Words, names: Words) -> Resu
     })
 }
 
-// Adds a rule of this namespace, or of the whole cluster if it is empty. Those of one namespace
-// come one after another.
-fn add_rule(
-    alloc: Global,
-    namespace: &Word,
-    rule: Rule,
-    least: &mut Least,
-) -> Result<(), AllocError>
-    ensures { OnOk result (AddsRule namespace.now rule least.old least.new) }
+// Adds the rule of a group that comes after all others: to its namespace, or to the whole cluster
+// if it has none.
+fn add_rule(alloc: Global, group: &Group, least: &mut Least) -> Result<(), AllocError>
+    ensures { (done : List Group) → HasRulesOf done least.old
+        → AreInOrder (done ++ group.now ∷ [])
+        → OnOk result (HasRulesOf (done ++ group.now ∷ []) least.new) }
 {
-    if namespace.is_empty() {
+    let rule = rule_of(alloc, group)?;
+    if group.key.namespace.is_empty() {
         least.everywhere.push(rule)?;
         return Ok(());
     }
-    let count = least.namespaces.as_slice().len();
-    if count > 0 && is_same(&least.namespaces[count - 1].namespace, namespace) {
-        least.namespaces[count - 1].rules.push(rule)?;
+    add_to_part(alloc, &group.key.namespace, rule, &mut least.namespaces)
+}
+
+// Adds a rule of a namespace: to the last one, if it is that, and otherwise to a new one.
+fn add_to_part(
+    alloc: Global,
+    namespace: &Word,
+    rule: Rule,
+    parts: &mut Vec<NamespaceRules>,
+) -> Result<(), AllocError>
+    requires { namespace.now ≢ [] }
+    ensures { (done : List Group) (group : Group) → group.key.namespace ≡ namespace.now
+        → rule_of group ≡ rule → ArePartsOf done parts.old.items
+        → AreInOrder (done ++ group ∷ [])
+        → OnOk result (ArePartsOf (done ++ group ∷ []) parts.new.items) }
+{
+    let count = parts.as_slice().len();
+    if count == 0 {
+        return add_part(alloc, namespace, rule, parts);
+    }
+    if is_same(&parts[count - 1].namespace, namespace) {
+        parts[count - 1].rules.push(rule)?;
         return Ok(());
     }
+    add_part(alloc, namespace, rule, parts)
+}
+
+// Adds a namespace with one rule.
+fn add_part(
+    alloc: Global,
+    namespace: &Word,
+    rule: Rule,
+    parts: &mut Vec<NamespaceRules>,
+) -> Result<(), AllocError>
+    ensures { OnOk result (parts.new.items
+        ≡ parts.old.items ++ part_of namespace.now (rule ∷ []) ∷ []) }
+{
     let mut rules = Rules::new(alloc);
     rules.push(rule)?;
-    least.namespaces.push(NamespaceRules {
+    parts.push(NamespaceRules {
         namespace: namespace.clone()?,
         rules,
     })?;

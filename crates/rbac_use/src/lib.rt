@@ -14,12 +14,13 @@ mod next_binding;
 mod permission;
 mod request;
 mod rules;
-#[cfg(test)]
-mod tests;
 mod unused;
 mod usable;
 
-pub use laws::{rules_are_used_by_permissions, unused_lines_are_one, what_is_unused_isnt_needed};
+pub use laws::{
+    least_allows_what_is_needed, least_is_one, rules_are_used_by_permissions, unused_lines_are_one,
+    what_is_unused_isnt_needed,
+};
 pub use least::{Least, NamespaceRules, least_of};
 pub use line::put_unused;
 pub use log::Log;

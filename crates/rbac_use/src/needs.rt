@@ -2,6 +2,7 @@
 //! for.
 
 ghost use Rattle.std.specs.Prelude.{◌≡◌, ◌≢◌, ◌↔◌, Contains, IfOk, IsTrue, codes};
+ghost use Rattle.std.specs.Str.{IsUtf8};
 ghost use Rattle.rbac_terms.specs.Matching.{EndsInStar};
 ghost use Rattle.rbac_terms.specs.Principals.{IsUserNamed};
 ghost use Rattle.rbac_terms.specs.Text.{BeginsWith};
@@ -16,6 +17,7 @@ use rbac_model::Policy;
 use rbac_subjects::SubjectIndex;
 use rbac_terms::{Target, Word, before_stars};
 use std::alloc::{AllocError, Global};
+use std::str::from_utf8;
 
 // The word that matches any verb, API group or resource.
 const ANY: &[u8] = b"*";
@@ -83,19 +85,19 @@ fn is_of_user(request: Request<'_>, user: &Word) -> bool
 }
 
 // Whether a rule can allow this verb on this target alone: as a word of a rule, none of their words
-// is a wildcard.
+// is a wildcard, and a document can have the rule.
 fn can_be_written(verb: &Word, target: &Target) -> bool
     ensures { IsTrue result ↔ CanBeWritten verb.now target.now }
 {
     verb.as_bytes() != ANY && is_plain_target(target)
 }
 
-// Whether no word of this target is a wildcard in a rule.
+// Whether no word of this target is a wildcard in a rule, and JSON can carry its path.
 fn is_plain_target(target: &Target) -> bool
     ensures { IsTrue result ↔ IsPlainTarget target.now }
 {
     if target.is_url() {
-        return !ends_in_star(target.text().as_bytes());
+        return is_plain_path(target.text().as_bytes());
     }
     target.group().as_bytes() != ANY && is_plain_resource(target.text().as_bytes())
 }
@@ -105,6 +107,13 @@ fn is_plain_resource(text: &[u8]) -> bool
     ensures { IsTrue result ↔ ((text.now ≢ codes "*") × (¬ BeginsWith text.now (codes "*/"))) }
 {
     text != ANY && !text.starts_with(ANY_WITH)
+}
+
+// Whether this path isn't a wildcard in a rule, and JSON can carry it.
+fn is_plain_path(path: &[u8]) -> bool
+    ensures { IsTrue result ↔ ((¬ EndsInStar path.now) × IsUtf8 path.now) }
+{
+    !ends_in_star(path) && from_utf8(path).is_ok()
 }
 
 // Whether this path is a wildcard in a rule.

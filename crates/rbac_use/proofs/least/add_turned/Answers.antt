@@ -4,7 +4,8 @@ use Rattle.rbac_use.specs.Grouping.{under}
 use Rattle.rbac_use.specs.LeastRules.{with_words}
 use Rattle.rbac_use.specs.declared.grouping.Pair.{Pair}
 use Rattle.rbac_use.specs.declared.grouping.RuleKey.{RuleKey}
-use Rattle.rbac_use.proofs.LeastSteps.{TurnedOf, taken_more, turned_more}
+use Rattle.rbac_use.proofs.LeastSteps.{TurnedOf, turned_more}
+use Rattle.rbac_use.proofs.Pushed.{taken_more}
 use Rattle.rbac_use.proofs.least.add_turned.Goals as goal
 
 pub loop-word-preserved : goal.loop-word-preserved

@@ -3,7 +3,7 @@ use Rattle.rbac_use.specs.LeastRules.{pair_of}
 use Rattle.rbac_use.specs.Requests.{request_of}
 use Rattle.rbac_use.specs.declared.grouping.Pair.{Pair}
 use Rattle.rbac_use.specs.declared.request.Request.{Request}
-use Rattle.rbac_use.proofs.LeastSteps.{contains_pushed, one_step, taken_more}
+use Rattle.rbac_use.proofs.Pushed.{contains_pushed, one_step, taken_more}
 use Rattle.rbac_use.proofs.least.asked_pairs.Goals as goal
 
 pub loop-request-preserved : goal.loop-request-preserved

@@ -1,23 +1,27 @@
-use Rattle.std.proofs.Common.{◌↔◌, Any, List, subst, take, take_all}
-use Rattle.rbac_terms.specs.declared.matching.Rule.{Rule}
-use Rattle.rbac_use.specs.Least.{HasRuleIn}
-use Rattle.rbac_use.specs.LeastRules.{AddsRule, IsRuleOf}
+use Rattle.std.proofs.Common.{◌≡◌, ◌+◌, List, subst, take, take_all}
+use Rattle.rbac_use.specs.Grouping.{AreInOrder, key_cmp}
+use Rattle.std.specs.declared.cmp.Ordering.TheVariants.{Less}
+use Rattle.rbac_use.specs.LeastRules.{HasRulesOf}
 use Rattle.rbac_use.specs.declared.grouping.Group.{Group}
-use Rattle.rbac_use.proofs.LeastSteps.{one_step, taken_more}
+use Rattle.rbac_use.specs.declared.least.Least.{Least}
+use Rattle.rbac_use.proofs.Parts.{none_of_groups}
+use Rattle.rbac_use.proofs.Pushed.{first_pairs, taken_more}
 use Rattle.rbac_use.proofs.least.least_from.Goals as goal
 
+pub loop-group-init : goal.loop-group-init
+loop-group-init c =
+    let least : Least = record { everywhere = c.new.result; namespaces = c.new-2.result } in
+    none_of_groups least c.new.ensures c.new-2.ensures.items
+
 pub loop-group-preserved : goal.loop-group-preserved
-loop-group-preserved c home rule =
+loop-group-preserved c =
     let groups = c.args.groups.now in
     let i = c.loop-group.group-index in
     let g = c.group-item.result in
-    let old = c.loop-group.least in
-    let new = c.add_rule.new.least in
-    let adds : AddsRule g.key.namespace _ old new = subst (λ (r : Rule). AddsRule g.key.namespace r old new) c.in_ok-rule.ensures c.in_ok-add_rule.ensures in
-    rw (taken_more groups i g c.loop-group-test.true c.group-item.is)
-    (one_step (IsRuleOf home rule) (take i groups) g (HasRuleIn old home rule) (HasRuleIn new home rule) (c.loop-group.invariant home rule) (adds home rule))
+    let taken = taken_more groups i g c.loop-group-test.true c.group-item.is in
+    let up = first_pairs (λ (a b : Group). key_cmp a.key b.key ≡ Less) groups (i + 1) c.requires in
+    rw taken (c.in_ok-add_rule.ensures (take i groups) c.loop-group.invariant (subst AreInOrder taken up))
 
 pub returns : goal.returns
-returns c home rule =
-    subst (λ (gs : List Group). HasRuleIn c.loop-group.least home rule ↔ Any (IsRuleOf home rule) gs)
-    (take_all c.loop-group.group-index c.args.groups.now c.loop-group-test.false) (c.loop-group.invariant home rule)
+returns c =
+    subst (λ (gs : List Group). HasRulesOf gs c.loop-group.least) (take_all c.loop-group.group-index c.args.groups.now c.loop-group-test.false) c.loop-group.invariant

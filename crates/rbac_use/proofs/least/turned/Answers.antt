@@ -1,7 +1,7 @@
 use Rattle.std.proofs.Common.{◌↔◌, Any, Contains, List, subst, take, take_all}
 use Rattle.rbac_use.specs.LeastRules.{IsTurned}
 use Rattle.rbac_use.specs.declared.grouping.Group.{Group}
-use Rattle.rbac_use.proofs.LeastSteps.{one_step, taken_more}
+use Rattle.rbac_use.proofs.Pushed.{one_step, taken_more}
 use Rattle.rbac_use.proofs.least.turned.Goals as goal
 
 pub loop-group-preserved : goal.loop-group-preserved
