@@ -11,3 +11,18 @@ on_ok (Err x) a b c e f = tt
 -- three pieces, the first two of two parts each
 pub three : (old a x b y z m n last : List ℕ) → m ≡ old ++ a ++ x → n ≡ m ++ b ++ y → last ≡ n ++ z → last ≡ old ++ (a ++ x ++ b ++ y ++ z)
 three old a x b y z m n last p q e = e ∙ ap (λ l. l ++ z) (q ∙ ap (λ l. l ++ b ++ y) p) ∙ simp append_assoc
+
+-- four pieces, the first two of two parts each
+pub four : (old a x b y d z m n o last : List ℕ) → m ≡ old ++ a ++ x → n ≡ m ++ b ++ y → o ≡ n ++ d → last ≡ o ++ z
+    → last ≡ old ++ (a ++ x ++ b ++ y ++ d ++ z)
+four old a x b y d z m n o last p q r e = e ∙ ap (λ l. l ++ z) (r ∙ ap (λ l. l ++ d) (q ∙ ap (λ l. l ++ b ++ y) p)) ∙ simp append_assoc
+
+-- a text between two others
+pub between : (old a b d m n last : List ℕ) → m ≡ old ++ a → n ≡ m ++ b → last ≡ n ++ d → last ≡ old ++ (a ++ b ++ d)
+between old a b d m n last p q e = e ∙ ap (λ l. l ++ d) (q ∙ ap (λ l. l ++ b) p) ∙ simp append_assoc
+
+-- five pieces
+pub five : (old a b d f g m n o p last : List ℕ) → m ≡ old ++ a → n ≡ m ++ b → o ≡ n ++ d → p ≡ o ++ f → last ≡ p ++ g
+    → last ≡ old ++ (a ++ b ++ d ++ f ++ g)
+five old a b d f g m n o p last h i j k e =
+    e ∙ ap (λ l. l ++ g) (k ∙ ap (λ l. l ++ f) (j ∙ ap (λ l. l ++ d) (i ∙ ap (λ l. l ++ b) h))) ∙ simp append_assoc

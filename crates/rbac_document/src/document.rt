@@ -28,7 +28,7 @@ pub fn put_document(document: &mut Vec<u8>, lists: &UniverseLists) -> Result<(),
 
 // Adds a member of this name, which is a list.
 #[tactic(auto, unfolding(crate::specs::Document::member_text))]
-fn put_member<T: Entry>(
+pub(crate) fn put_member<T: Entry>(
     document: &mut Vec<u8>,
     name: &[u8],
     entries: &[T],

@@ -97,7 +97,11 @@ fn rest_of_resource(namespaced: bool) -> &'static [u8]
 }
 
 // Adds the text `before`, and then a text as a JSON string.
-fn put_after(document: &mut Vec<u8>, before: &[u8], text: &[u8]) -> Result<(), AllocError>
+pub(crate) fn put_after(
+    document: &mut Vec<u8>,
+    before: &[u8],
+    text: &[u8],
+) -> Result<(), AllocError>
     ensures { OnOk result
         (document.new.items ≡ document.old.items ++ before.now ++ quoted text.now) }
 {
@@ -119,7 +123,7 @@ pub(crate) fn put_list<T: Entry>(document: &mut Vec<u8>, entries: &[T]) -> Resul
 }
 
 // Adds entries with this text between them.
-fn put_joined<T: Entry>(
+pub(crate) fn put_joined<T: Entry>(
     document: &mut Vec<u8>,
     between: &[u8],
     entries: &[T],

@@ -72,9 +72,11 @@ fn cut_at_colon(text: &[u8]) -> Option<(&[u8], &[u8])>
     parts_of(namespace, name)
 }
 
-// The namespace and the name in the user name of a service account.
+/// The namespace and the name in the user name of a service account,
+/// `system:serviceaccount:NAMESPACE:NAME` (Using RBAC Authorization, "Referring to subjects"):
+/// neither is empty or has a colon. `None` for any other user name. Doesn't allocate.
 #[tactic(auto, unfolding(crate::specs::Acting::account_parts))]
-fn account_parts(user: &[u8]) -> Option<(&[u8], &[u8])>
+pub fn account_parts(user: &[u8]) -> Option<(&[u8], &[u8])>
     ensures { option_map (λ p. (p.0.now, p.1.now)) result ≡ account_parts user.now }
 {
     if user.starts_with(ACCOUNT) {

@@ -11,10 +11,9 @@ mod line;
 mod log_fault;
 mod logged;
 mod reading;
-#[cfg(test)]
-mod tests;
 mod user;
 
+pub use acting::account_parts;
 pub use fault::LineFault;
 pub use laws::{
     accounts_are_impersonated_in_their_namespaces, events_tell_in_order,
