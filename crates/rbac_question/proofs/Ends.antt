@@ -8,7 +8,7 @@ use Rattle.rbac_terms.proofs.Texts.{IsCutAtFirst-contains, IsCutAtFirst-one, IsC
 use Rattle.rbac_question.specs.Lines.{HasBadPrincipal, NamesPrincipal, RefusesWho, WhoParts}
 use Rattle.rbac_question.specs.PathEnds.{HasNameAfter, IsRoleIn, IsRoleText}
 use Rattle.rbac_question.specs.declared.fault.QuestionFault.{QuestionFault}
-use Rattle.rbac_question.specs.declared.fault.QuestionFault.TheVariants.{EmptyWord, UrlSubresource, BadToken, BadPrincipal, BadCode, BadChange, BadStep, BadIndirect, BadEnd, BadLogs, NoMemory}
+use Rattle.rbac_question.specs.declared.fault.QuestionFault.TheVariants.{EmptyWord, UrlSubresource, BadToken, BadPrincipal, BadCode, BadChange, BadStep, BadIndirect, BadEnd, BadLogs, BadRoleName, NoMemory}
 
 pub has_name : (front text : Text) (r : Option (Bor Text)) (b : Bool) → b ≡ is_some r
     → MatchOption r ((name : Text) → text ≡ front ++ name → name ≡ []) (λ name. (text ≡ front ++ name.now) × (name.now ≢ []))
@@ -78,6 +78,7 @@ only_memory w BadStep refused named = absurd refused
 only_memory w BadIndirect refused named = absurd refused
 only_memory w BadEnd refused named = absurd refused
 only_memory w BadLogs refused named = absurd refused
+only_memory w BadRoleName refused named = absurd refused
 only_memory w NoMemory refused named = refl
 
 pub named_or_memory : (w : WhoParts) (r : Result Who QuestionFault) → MatchResult r (NamesPrincipal w) (RefusesWho w) → (HasBadPrincipal w → ⊥)

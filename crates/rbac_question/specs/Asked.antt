@@ -10,7 +10,7 @@ use Rattle.rbac_question.specs.declared.fault.QuestionFault.TheVariants.{BadToke
 use Rattle.rbac_question.specs.declared.fault.QuestionFault.TheVariants.{BadCode, BadChange}
 use Rattle.rbac_question.specs.declared.fault.QuestionFault.TheVariants.{BadStep, BadIndirect}
 use Rattle.rbac_question.specs.declared.fault.QuestionFault.TheVariants.{BadEnd, BadLogs}
-use Rattle.rbac_question.specs.declared.fault.QuestionFault.TheVariants.{NoMemory}
+use Rattle.rbac_question.specs.declared.fault.QuestionFault.TheVariants.{BadRoleName, NoMemory}
 
 -- a type word is not empty, has something before its first dot, and has no slash
 abbrev pub IsTypeWord : Text → Type 0
@@ -52,4 +52,5 @@ RefusesTarget target subresource BadStep = ⊥
 RefusesTarget target subresource BadIndirect = ⊥
 RefusesTarget target subresource BadEnd = ⊥
 RefusesTarget target subresource BadLogs = ⊥
+RefusesTarget target subresource BadRoleName = ⊥
 RefusesTarget target subresource NoMemory = Unit {0}

@@ -5,7 +5,7 @@ use Rattle.rbac_question.specs.declared.fault.QuestionFault.TheVariants.{BadToke
 use Rattle.rbac_question.specs.declared.fault.QuestionFault.TheVariants.{BadCode, BadChange}
 use Rattle.rbac_question.specs.declared.fault.QuestionFault.TheVariants.{BadStep, BadIndirect}
 use Rattle.rbac_question.specs.declared.fault.QuestionFault.TheVariants.{BadEnd, BadLogs}
-use Rattle.rbac_question.specs.declared.fault.QuestionFault.TheVariants.{NoMemory}
+use Rattle.rbac_question.specs.declared.fault.QuestionFault.TheVariants.{BadRoleName, NoMemory}
 use Rattle.rbac_token.specs.declared.fault.TokenFault.{TokenFault}
 use Rattle.rbac_token.specs.declared.fault.TokenFault.TheVariants as token
 
@@ -25,6 +25,7 @@ fault_text BadEnd = codes "U10 --to takes u:USER, g:GROUP, ClusterRole/NAME, Rol
     ++ codes "-n NS needs one of the last three"
 fault_text BadLogs = codes "U11 --log - may be given once, and needs a FILE: "
     ++ codes "standard input can be read only once"
+fault_text BadRoleName = codes "U12 --name is empty, . or .., or has / or %"
 fault_text NoMemory = codes "out of memory"
 
 -- the refusal of a line whose token has this fault

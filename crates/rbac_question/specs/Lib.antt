@@ -1,6 +1,8 @@
 pub mod Asked
 pub mod Faults
+pub mod LeastLines
 pub mod Lines
+pub mod Logs
 pub mod PathEnds
 pub mod PathsLines
 pub mod StepsLines

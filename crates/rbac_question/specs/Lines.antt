@@ -23,7 +23,7 @@ use Rattle.rbac_question.specs.declared.fault.QuestionFault.TheVariants.{BadToke
 use Rattle.rbac_question.specs.declared.fault.QuestionFault.TheVariants.{BadCode, BadChange}
 use Rattle.rbac_question.specs.declared.fault.QuestionFault.TheVariants.{BadStep, BadIndirect}
 use Rattle.rbac_question.specs.declared.fault.QuestionFault.TheVariants.{BadEnd, BadLogs}
-use Rattle.rbac_question.specs.declared.fault.QuestionFault.TheVariants.{NoMemory}
+use Rattle.rbac_question.specs.declared.fault.QuestionFault.TheVariants.{BadRoleName, NoMemory}
 use Rattle.rbac_question.specs.declared.line.DiffLine.{DiffLine}
 
 -- the parts of a line that ask a question; the text of an option that isn't given is empty
@@ -207,6 +207,7 @@ RefusesQuestion l BadStep = ⊥
 RefusesQuestion l BadIndirect = ⊥
 RefusesQuestion l BadEnd = ⊥
 RefusesQuestion l BadLogs = ⊥
+RefusesQuestion l BadRoleName = ⊥
 RefusesQuestion l NoMemory = Unit {0}
 
 -- a `can-i` line without U2 and U3; here an empty USER is U2 too (own)
@@ -225,6 +226,7 @@ RefusesCanI l BadStep = ⊥
 RefusesCanI l BadIndirect = ⊥
 RefusesCanI l BadEnd = ⊥
 RefusesCanI l BadLogs = ⊥
+RefusesCanI l BadRoleName = ⊥
 RefusesCanI l NoMemory = Unit {0}
 
 -- U4: the text after `--after` isn't the token of any mark, with or without `--every` (own)
@@ -244,6 +246,7 @@ RefusesMatrix l BadStep = ⊥
 RefusesMatrix l BadIndirect = ⊥
 RefusesMatrix l BadEnd = ⊥
 RefusesMatrix l BadLogs = ⊥
+RefusesMatrix l BadRoleName = ⊥
 RefusesMatrix l NoMemory = Unit {0}
 
 -- U5: WHO, `--groups` and `--group` name no principal (own)
@@ -262,6 +265,7 @@ RefusesWho l BadStep = ⊥
 RefusesWho l BadIndirect = ⊥
 RefusesWho l BadEnd = ⊥
 RefusesWho l BadLogs = ⊥
+RefusesWho l BadRoleName = ⊥
 RefusesWho l NoMemory = Unit {0}
 
 -- the refusal of a `rules` line
@@ -286,6 +290,7 @@ RefusesLint l BadStep = ⊥
 RefusesLint l BadIndirect = ⊥
 RefusesLint l BadEnd = ⊥
 RefusesLint l BadLogs = ⊥
+RefusesLint l BadRoleName = ⊥
 RefusesLint l NoMemory = Unit {0}
 
 -- U7: none of `--after`, `--without` and `--with` is given, or `--after` with one of the others

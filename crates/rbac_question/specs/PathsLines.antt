@@ -12,7 +12,7 @@ use Rattle.rbac_question.specs.declared.fault.QuestionFault.TheVariants.{BadToke
 use Rattle.rbac_question.specs.declared.fault.QuestionFault.TheVariants.{BadCode, BadChange}
 use Rattle.rbac_question.specs.declared.fault.QuestionFault.TheVariants.{BadStep, BadIndirect}
 use Rattle.rbac_question.specs.declared.fault.QuestionFault.TheVariants.{BadEnd, BadLogs}
-use Rattle.rbac_question.specs.declared.fault.QuestionFault.TheVariants.{NoMemory}
+use Rattle.rbac_question.specs.declared.fault.QuestionFault.TheVariants.{BadRoleName, NoMemory}
 
 -- the parts of a `paths` line: those that name a principal, the texts after `--steps` and `--to`,
 -- and the text after `-n`, which is empty if it isn't given
@@ -47,4 +47,5 @@ RefusesPaths l BadIndirect = ⊥
 RefusesPaths l BadEnd =
     (¬ HasBadPrincipal l.who) × AreStepWords l.steps × HasBadEnd l.to l.namespace
 RefusesPaths l BadLogs = ⊥
+RefusesPaths l BadRoleName = ⊥
 RefusesPaths l NoMemory = Unit {0}

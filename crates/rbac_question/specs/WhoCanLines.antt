@@ -13,7 +13,7 @@ use Rattle.rbac_question.specs.declared.fault.QuestionFault.TheVariants.{BadToke
 use Rattle.rbac_question.specs.declared.fault.QuestionFault.TheVariants.{BadCode, BadChange}
 use Rattle.rbac_question.specs.declared.fault.QuestionFault.TheVariants.{BadStep, BadIndirect}
 use Rattle.rbac_question.specs.declared.fault.QuestionFault.TheVariants.{BadEnd, BadLogs}
-use Rattle.rbac_question.specs.declared.fault.QuestionFault.TheVariants.{NoMemory}
+use Rattle.rbac_question.specs.declared.fault.QuestionFault.TheVariants.{BadRoleName, NoMemory}
 
 -- the parts of a `who-can` line: `--indirect`, the text after `--steps`, the options about holders,
 -- and the parts that ask the question
@@ -64,4 +64,5 @@ RefusesWhoCan l BadStep = AcceptsQuestion l.question × HasBadStep l.steps
 RefusesWhoCan l BadIndirect = AcceptsQuestion l.question × AreStepWords l.steps × (¬ GoTogether l)
 RefusesWhoCan l BadEnd = ⊥
 RefusesWhoCan l BadLogs = ⊥
+RefusesWhoCan l BadRoleName = ⊥
 RefusesWhoCan l NoMemory = Unit {0}

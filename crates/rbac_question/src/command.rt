@@ -134,6 +134,15 @@ pub enum Action {
         /// Whether bindings whose names begin with `system:` are left out.
         skip_system: bool,
     },
+    /// Prints roles and bindings that let a user do what it did by the logs, and nothing else.
+    Least {
+        /// The user that WHO names; never empty.
+        user: Word,
+        /// Whether rules keep the object names of the requests, and don't allow any name.
+        names: bool,
+        /// The name of the roles and bindings: the one after `--name`, or `least` without it.
+        name: Word,
+    },
     /// Lists who can act as others, or come to do so, by which step of the table and where.
     Powers,
     /// Lists whom a principal can come to act as, step by step.
@@ -185,6 +194,11 @@ impl Drop for Action {
                 skip_system: _,
             } => {}
             Self::Unused { skip_system: _ } => {}
+            Self::Least {
+                user: _,
+                names: _,
+                name: _,
+            } => {}
             Self::Powers => {}
             Self::Paths {
                 principal: _,
@@ -205,8 +219,8 @@ pub struct Command {
     pub action: Action,
     /// The names of the files to read, in order; without any, standard input is read.
     pub files: Vec<String>,
-    /// The names of the logs to read, in order; `-` is standard input. Only `unused` has logs, and
-    /// it has one at least.
+    /// The names of the logs to read, in order; `-` is standard input. Only `unused` and `least`
+    /// have logs, and each has one at least.
     pub logs: Vec<String>,
 }
 

@@ -33,7 +33,7 @@ pub enum QuestionFault {
     /// U4: what follows `--after` isn't the token of any mark.
     BadToken,
     /// U5: WHO isn't `u:` or `g:` with a name behind it, or a group is given `--groups` or
-    /// `--group`.
+    /// `--group`; or WHO of `least` isn't `u:` with a name behind it.
     BadPrincipal,
     /// U6: a part between the commas of `--only` isn't one of the words L1 to L7.
     BadCode,
@@ -49,9 +49,12 @@ pub enum QuestionFault {
     /// or `paths` has `-n` without `--to`, beside a user or a group, or beside a Role of another
     /// namespace.
     BadEnd,
-    /// U11: `unused` has `--log -` twice, or `--log -` without a FILE, so it would read standard
-    /// input twice.
+    /// U11: `unused` or `least` has `--log -` twice, or `--log -` without a FILE, so it would read
+    /// standard input twice.
     BadLogs,
+    /// U12: what follows `--name` of `least` can't be the name of a role or a binding: it is empty,
+    /// `.` or `..`, or it has a `/` or a `%` (Kubernetes, IsValidPathSegmentName).
+    BadRoleName,
     /// Out of memory.
     NoMemory,
 }
@@ -109,6 +112,7 @@ impl fmt::Display for QuestionFault {
             QuestionFault::BadIndirect => BAD_INDIRECT,
             QuestionFault::BadEnd => BAD_END,
             QuestionFault::BadLogs => BAD_LOGS,
+            QuestionFault::BadRoleName => "U12 --name is empty, . or .., or has / or %",
             QuestionFault::NoMemory => "out of memory",
         };
         f.write_str(text)

@@ -5,7 +5,9 @@
 mod asked;
 mod command;
 mod fault;
+mod least_line;
 mod line;
+mod logs;
 mod path_end;
 mod paths_line;
 mod steps_line;
@@ -18,6 +20,7 @@ pub use command::{
     Action, Change, Command, HolderOptions, MatrixOptions, Question, VerdictOptions,
 };
 pub use fault::QuestionFault;
+pub use least_line::LeastLine;
 pub use line::{CanILine, DiffLine, LintLine, MatrixLine, QuestionLine, RulesLine};
 pub use path_end::PathEnd;
 pub use paths_line::PathsLine;

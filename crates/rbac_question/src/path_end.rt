@@ -36,7 +36,7 @@ const ROLE_FRONT: &[u8] = b"Role/";
 const EVERYTHING: &[u8] = b"*";
 
 // Whether a text is this front and a name behind it.
-fn has_name_after(front: &[u8], text: &str) -> bool
+pub(crate) fn has_name_after(front: &[u8], text: &str) -> bool
     ensures { IsTrue result ↔ HasNameAfter front.now text.now }
 {
     name_behind(front, text).is_some()

@@ -1,10 +1,11 @@
 //! What the texts of an `unused` line mean.
 
-ghost use Rattle.std.specs.Prelude.{◌≡◌, ◌↔◌, ◌∷◌, [], IsTrue, MatchResult, filter, length, map};
-ghost use Rattle.rbac_question.specs.UnusedLines.{HasBadLogs, MeansUnused, RefusesUnused, is_stdin};
+ghost use Rattle.std.specs.Prelude.{MatchResult};
+ghost use Rattle.rbac_question.specs.UnusedLines.{MeansUnused, RefusesUnused};
 
 use crate::command::Action;
 use crate::fault::QuestionFault;
+use crate::logs::has_bad_logs;
 use std::marker::Model;
 
 /// The parts of an `unused` line.
@@ -32,46 +33,6 @@ impl<'m, 'a> Model for UnusedLine<'m, 'a> {
     } };
 }
 
-// How often standard input is among these names: 1 if this is it, otherwise 0.
-fn count_of(name: &str) -> usize
-    ensures { result ≡ length (filter is_stdin (name.now ∷ [])) }
-{
-    if name == "-" { 1 } else { 0 }
-}
-
-// How often standard input is among the names.
-fn stdin_count(names: &[&str]) -> usize
-    ensures { result ≡ length (filter is_stdin (map (λ n. n.now) names.now)) }
-{
-    let mut count = 0;
-    for name in names {
-        count += count_of(name);
-    }
-    count
-}
-
-// How often standard input is among the logs.
-fn log_count(line: &UnusedLine<'_, '_>) -> usize
-    ensures { result ≡ length (filter is_stdin line.now.logs) }
-{
-    match line.logs {
-        Some(names) => stdin_count(names),
-        None => 0,
-    }
-}
-
-// Whether the line reads standard input more than once.
-fn has_bad_logs(line: &UnusedLine<'_, '_>) -> bool
-    ensures { IsTrue result ↔ HasBadLogs line.now }
-{
-    let count = log_count(line);
-    if line.files == 0 {
-        count > 0
-    } else {
-        count > 1
-    }
-}
-
 impl Action {
     /// What an `unused` line means.
     ///
@@ -80,7 +41,7 @@ impl Action {
     pub fn unused(line: &UnusedLine<'_, '_>) -> Result<Self, QuestionFault>
         ensures { MatchResult result (MeansUnused line.now) (RefusesUnused line.now) }
     {
-        if has_bad_logs(line) {
+        if has_bad_logs(line.logs, line.files) {
             return Err(QuestionFault::BadLogs);
         }
         Ok(Action::Unused {
