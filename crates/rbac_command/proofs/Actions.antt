@@ -5,33 +5,35 @@ use Rattle.std.specs.Str.{bytes_eq}
 use Rattle.std.proofs.lemmas.Slice.Eq.{bytes_eq-Decides}
 use Rattle.clap.specs.Words.{Row, Text, first_of}
 use Rattle.rbac_question.specs.Lines.{CanIParts, RulesParts, MatrixParts, LintParts, MeansCanI, MeansRules, MeansMatrix, MeansLint, MeansDiff, AcceptsCanI, RefusesCanI, RefusesRules, RefusesMatrix, RefusesLint, RefusesDiff, HasBadToken, IsMarkGiven}
+use Rattle.rbac_question.specs.LeastLines.{LeastParts, AcceptsLeast, MeansLeast, RefusesLeast}
 use Rattle.rbac_question.specs.PathsLines.{PathsParts, AcceptsPaths, MeansPaths, RefusesPaths}
 use Rattle.rbac_question.specs.UnusedLines.{UnusedParts, MeansUnused, RefusesUnused}
 use Rattle.rbac_question.specs.WhoCanLines.{WhoCanParts, MeansWhoCan, AcceptsWhoCan, RefusesWhoCan}
 use Rattle.rbac_question.specs.declared.command.Action.{Action}
-use Rattle.rbac_question.specs.declared.command.Action.TheVariants.{CanI, WhoCan, WaysTo, Rules, Matrix, Universe, Lint, Unused, Powers, Paths, Diff}
+use Rattle.rbac_question.specs.declared.command.Action.TheVariants.{CanI, WhoCan, WaysTo, Rules, Matrix, Universe, Lint, Unused, Least, Powers, Paths, Diff}
 use Rattle.rbac_question.specs.declared.fault.QuestionFault.{QuestionFault}
-use Rattle.rbac_question.specs.declared.fault.QuestionFault.TheVariants.{EmptyWord, UrlSubresource, BadToken, BadPrincipal, BadCode, BadChange, BadStep, BadIndirect, BadEnd, BadLogs, NoMemory}
+use Rattle.rbac_question.specs.declared.fault.QuestionFault.TheVariants.{EmptyWord, UrlSubresource, BadToken, BadPrincipal, BadCode, BadChange, BadStep, BadIndirect, BadEnd, BadLogs, BadRoleName, NoMemory}
 use Rattle.rbac_question.specs.declared.line.DiffLine.{DiffLine}
 use Rattle.rbac_command.specs.MatrixOptions.{matrix_options_in}
-use Rattle.rbac_command.specs.Meaning.{parts_in, who_can_in, rules_line_in, paths_line_in, lint_in, diff_in, unused_in, is_known, DoesAction, IsNumberAt, RefusesAction}
+use Rattle.rbac_command.specs.Meaning.{parts_in, who_can_in, rules_line_in, paths_line_in, lint_in, diff_in, unused_in, least_in, is_known, DoesAction, IsNumberAt, RefusesAction}
 
-first_of_ten : (a b c d e f g h i j : Bool) → a || (b || (c || (d || (e || (f || (g || (h || (i || j)))))))) ≡ true
-    → b ≡ false → c ≡ false → d ≡ false → e ≡ false → f ≡ false → g ≡ false → h ≡ false → i ≡ false → j ≡ false → a ≡ true
-first_of_ten true b c d e f g h i j k l m n o p q r s t = refl
-first_of_ten false true c d e f g h i j k l m n o p q r s t = cc
-first_of_ten false false true d e f g h i j k l m n o p q r s t = cc
-first_of_ten false false false true e f g h i j k l m n o p q r s t = cc
-first_of_ten false false false false true f g h i j k l m n o p q r s t = cc
-first_of_ten false false false false false true g h i j k l m n o p q r s t = cc
-first_of_ten false false false false false false true h i j k l m n o p q r s t = cc
-first_of_ten false false false false false false false true i j k l m n o p q r s t = cc
-first_of_ten false false false false false false false false true j k l m n o p q r s t = cc
-first_of_ten false false false false false false false false false true k l m n o p q r s t = cc
-first_of_ten false false false false false false false false false false k l m n o p q r s t = cc
+first_of_eleven : (a b c d e f g h i j k : Bool) → a || (b || (c || (d || (e || (f || (g || (h || (i || (j || k))))))))) ≡ true
+    → b ≡ false → c ≡ false → d ≡ false → e ≡ false → f ≡ false → g ≡ false → h ≡ false → i ≡ false → j ≡ false → k ≡ false → a ≡ true
+first_of_eleven true b c d e f g h i j k known l m n o p q r s t u = refl
+first_of_eleven false true c d e f g h i j k known l m n o p q r s t u = cc
+first_of_eleven false false true d e f g h i j k known l m n o p q r s t u = cc
+first_of_eleven false false false true e f g h i j k known l m n o p q r s t u = cc
+first_of_eleven false false false false true f g h i j k known l m n o p q r s t u = cc
+first_of_eleven false false false false false true g h i j k known l m n o p q r s t u = cc
+first_of_eleven false false false false false false true h i j k known l m n o p q r s t u = cc
+first_of_eleven false false false false false false false true i j k known l m n o p q r s t u = cc
+first_of_eleven false false false false false false false false true j k known l m n o p q r s t u = cc
+first_of_eleven false false false false false false false false false true k known l m n o p q r s t u = cc
+first_of_eleven false false false false false false false false false false true known l m n o p q r s t u = cc
+first_of_eleven false false false false false false false false false false false known l m n o p q r s t u = cc
 
 -- a known name that is none of the others is `can-i`
-pub the_other : (name : Text) (is_matrix is_who_can is_rules is_universe is_lint is_powers is_paths is_diff is_unused : Bool) → is_known name ≡ true
+pub the_other : (name : Text) (is_matrix is_who_can is_rules is_universe is_lint is_powers is_paths is_diff is_unused is_least : Bool) → is_known name ≡ true
     → is_matrix ≡ bytes_eq name (codes "matrix") → is_matrix ≡ false
     → is_who_can ≡ bytes_eq name (codes "who-can") → is_who_can ≡ false
     → is_rules ≡ bytes_eq name (codes "rules") → is_rules ≡ false
@@ -41,13 +43,14 @@ pub the_other : (name : Text) (is_matrix is_who_can is_rules is_universe is_lint
     → is_paths ≡ bytes_eq name (codes "paths") → is_paths ≡ false
     → is_diff ≡ bytes_eq name (codes "diff") → is_diff ≡ false
     → is_unused ≡ bytes_eq name (codes "unused") → is_unused ≡ false
+    → is_least ≡ bytes_eq name (codes "least") → is_least ≡ false
     → name ≡ codes "can-i"
-the_other name is_matrix is_who_can is_rules is_universe is_lint is_powers is_paths is_diff is_unused known m no_matrix w no_who_can r no_rules u no_universe l no_lint p no_powers a no_paths d no_diff n no_unused =
+the_other name is_matrix is_who_can is_rules is_universe is_lint is_powers is_paths is_diff is_unused is_least known m no_matrix w no_who_can r no_rules u no_universe l no_lint p no_powers a no_paths d no_diff n no_unused t no_least =
     (bytes_eq-Decides name (codes "can-i")).0
-    (first_of_ten (bytes_eq name (codes "can-i")) (bytes_eq name (codes "who-can")) (bytes_eq name (codes "rules")) (bytes_eq name (codes "matrix"))
+    (first_of_eleven (bytes_eq name (codes "can-i")) (bytes_eq name (codes "who-can")) (bytes_eq name (codes "rules")) (bytes_eq name (codes "matrix"))
     (bytes_eq name (codes "universe")) (bytes_eq name (codes "lint")) (bytes_eq name (codes "powers")) (bytes_eq name (codes "paths"))
-    (bytes_eq name (codes "diff")) (bytes_eq name (codes "unused")) known (sym w ∙ no_who_can) (sym r ∙ no_rules)
-    (sym m ∙ no_matrix) (sym u ∙ no_universe) (sym l ∙ no_lint) (sym p ∙ no_powers) (sym a ∙ no_paths) (sym d ∙ no_diff) (sym n ∙ no_unused))
+    (bytes_eq name (codes "diff")) (bytes_eq name (codes "unused")) (bytes_eq name (codes "least")) known (sym w ∙ no_who_can) (sym r ∙ no_rules)
+    (sym m ∙ no_matrix) (sym u ∙ no_universe) (sym l ∙ no_lint) (sym p ∙ no_powers) (sym a ∙ no_paths) (sym d ∙ no_diff) (sym n ∙ no_unused) (sym t ∙ no_least))
 
 as_can_i : (name : Text) (rows : List Row) (r : Result Action QuestionFault) → name ≡ codes "can-i"
     → MatchResult r (λ a. AcceptsCanI (parts_in rows) × MeansCanI (parts_in rows) a) (RefusesCanI (parts_in rows))
@@ -59,6 +62,7 @@ as_can_i name rows (Ok (Rules principal scope)) e h = absurd h.1
 as_can_i name rows (Ok (Matrix options after limit)) e h = absurd h.1
 as_can_i name rows (Ok (Lint only skip_system)) e h = absurd h.1
 as_can_i name rows (Ok (Unused skip_system)) e h = absurd h.1
+as_can_i name rows (Ok (Least user names called)) e h = absurd h.1
 as_can_i name rows (Ok Universe) e h = absurd h.1
 as_can_i name rows (Ok Powers) e h = absurd h.1
 as_can_i name rows (Ok (Paths principal chosen to)) e h = absurd h.1
@@ -73,6 +77,7 @@ as_can_i name rows (Err BadStep) e h = absurd h
 as_can_i name rows (Err BadIndirect) e h = absurd h
 as_can_i name rows (Err BadEnd) e h = absurd h
 as_can_i name rows (Err BadLogs) e h = absurd h
+as_can_i name rows (Err BadRoleName) e h = absurd h
 as_can_i name rows (Err NoMemory) e h = tt
 
 pub can_i_line : (name : Text) (rows : List Row) (l : CanIParts) (r : Result Action QuestionFault) → name ≡ codes "can-i" → l ≡ parts_in rows
@@ -91,6 +96,7 @@ as_who_can name rows (Ok (Rules principal scope)) e h = absurd h.1
 as_who_can name rows (Ok (Matrix options after limit)) e h = absurd h.1
 as_who_can name rows (Ok (Lint only skip_system)) e h = absurd h.1
 as_who_can name rows (Ok (Unused skip_system)) e h = absurd h.1
+as_who_can name rows (Ok (Least user names called)) e h = absurd h.1
 as_who_can name rows (Ok Universe) e h = absurd h.1
 as_who_can name rows (Ok Powers) e h = absurd h.1
 as_who_can name rows (Ok (Paths principal chosen to)) e h = absurd h.1
@@ -105,6 +111,7 @@ as_who_can name rows (Err BadStep) e h = inr (e, h)
 as_who_can name rows (Err BadIndirect) e h = (e, h)
 as_who_can name rows (Err BadEnd) e h = absurd h
 as_who_can name rows (Err BadLogs) e h = absurd h
+as_who_can name rows (Err BadRoleName) e h = absurd h
 as_who_can name rows (Err NoMemory) e h = tt
 
 pub who_can_line : (name : Text) (rows : List Row) (l : WhoCanParts) (r : Result Action QuestionFault) → name ≡ codes "who-can" → l ≡ who_can_in rows
@@ -123,6 +130,7 @@ as_rules name rows (Ok (Rules principal scope)) e h = (e, h)
 as_rules name rows (Ok (Matrix options after limit)) e h = absurd h
 as_rules name rows (Ok (Lint only skip_system)) e h = absurd h
 as_rules name rows (Ok (Unused skip_system)) e h = absurd h
+as_rules name rows (Ok (Least user names called)) e h = absurd h
 as_rules name rows (Ok Universe) e h = absurd h
 as_rules name rows (Ok Powers) e h = absurd h
 as_rules name rows (Ok (Paths principal chosen to)) e h = absurd h
@@ -130,13 +138,14 @@ as_rules name rows (Ok (Diff before change)) e h = absurd h
 as_rules name rows (Err EmptyWord) e h = absurd h
 as_rules name rows (Err UrlSubresource) e h = absurd h
 as_rules name rows (Err BadToken) e h = absurd h
-as_rules name rows (Err BadPrincipal) e h = (inl e, h)
+as_rules name rows (Err BadPrincipal) e h = inl (inl e, h)
 as_rules name rows (Err BadCode) e h = absurd h
 as_rules name rows (Err BadChange) e h = absurd h
 as_rules name rows (Err BadStep) e h = absurd h
 as_rules name rows (Err BadIndirect) e h = absurd h
 as_rules name rows (Err BadEnd) e h = absurd h
 as_rules name rows (Err BadLogs) e h = absurd h
+as_rules name rows (Err BadRoleName) e h = absurd h
 as_rules name rows (Err NoMemory) e h = tt
 
 pub rules_line : (name : Text) (rows : List Row) (l : RulesParts) (r : Result Action QuestionFault) → name ≡ codes "rules" → l ≡ rules_line_in rows
@@ -155,6 +164,7 @@ as_paths name rows (Ok (Rules principal scope)) e h = absurd h.1
 as_paths name rows (Ok (Matrix options after limit)) e h = absurd h.1
 as_paths name rows (Ok (Lint only skip_system)) e h = absurd h.1
 as_paths name rows (Ok (Unused skip_system)) e h = absurd h.1
+as_paths name rows (Ok (Least user names called)) e h = absurd h.1
 as_paths name rows (Ok Universe) e h = absurd h.1
 as_paths name rows (Ok Powers) e h = absurd h.1
 as_paths name rows (Ok (Paths principal chosen to)) e h = (e, h.0, h.1)
@@ -162,13 +172,14 @@ as_paths name rows (Ok (Diff before change)) e h = absurd h.1
 as_paths name rows (Err EmptyWord) e h = absurd h
 as_paths name rows (Err UrlSubresource) e h = absurd h
 as_paths name rows (Err BadToken) e h = absurd h
-as_paths name rows (Err BadPrincipal) e h = (inr e, h)
+as_paths name rows (Err BadPrincipal) e h = inl (inr e, h)
 as_paths name rows (Err BadCode) e h = absurd h
 as_paths name rows (Err BadChange) e h = absurd h
 as_paths name rows (Err BadStep) e h = inl (e, h)
 as_paths name rows (Err BadIndirect) e h = absurd h
 as_paths name rows (Err BadEnd) e h = (e, h)
 as_paths name rows (Err BadLogs) e h = absurd h
+as_paths name rows (Err BadRoleName) e h = absurd h
 as_paths name rows (Err NoMemory) e h = tt
 
 pub paths_line : (name : Text) (rows : List Row) (l : PathsParts) (r : Result Action QuestionFault) → name ≡ codes "paths" → l ≡ paths_line_in rows
@@ -187,6 +198,7 @@ as_lint name rows (Ok (Rules principal scope)) e h = absurd h
 as_lint name rows (Ok (Matrix options after limit)) e h = absurd h
 as_lint name rows (Ok (Lint only skip_system)) e h = (e, h)
 as_lint name rows (Ok (Unused skip_system)) e h = absurd h
+as_lint name rows (Ok (Least user names called)) e h = absurd h
 as_lint name rows (Ok Universe) e h = absurd h
 as_lint name rows (Ok Powers) e h = absurd h
 as_lint name rows (Ok (Paths principal chosen to)) e h = absurd h
@@ -201,6 +213,7 @@ as_lint name rows (Err BadStep) e h = absurd h
 as_lint name rows (Err BadIndirect) e h = absurd h
 as_lint name rows (Err BadEnd) e h = absurd h
 as_lint name rows (Err BadLogs) e h = absurd h
+as_lint name rows (Err BadRoleName) e h = absurd h
 as_lint name rows (Err NoMemory) e h = tt
 
 pub lint_line : (name : Text) (rows : List Row) (l : LintParts) (r : Result Action QuestionFault) → name ≡ codes "lint" → l ≡ lint_in rows
@@ -221,6 +234,7 @@ matrix_line name rows l (Ok (Matrix options after limit)) e v f n h =
     (e, h.0 ∙ v, subst (λ (t : _). IsMarkGiven t after) f h.1, subst (λ (m : _). IsNumberAt (codes "limit") rows m) (sym h.2) n)
 matrix_line name rows l (Ok (Lint only skip_system)) e v f n h = absurd h
 matrix_line name rows l (Ok (Unused skip_system)) e v f n h = absurd h
+matrix_line name rows l (Ok (Least user names called)) e v f n h = absurd h
 matrix_line name rows l (Ok Universe) e v f n h = absurd h
 matrix_line name rows l (Ok Powers) e v f n h = absurd h
 matrix_line name rows l (Ok (Paths principal chosen to)) e v f n h = absurd h
@@ -235,6 +249,7 @@ matrix_line name rows l (Err BadStep) e v f n h = absurd h
 matrix_line name rows l (Err BadIndirect) e v f n h = absurd h
 matrix_line name rows l (Err BadEnd) e v f n h = absurd h
 matrix_line name rows l (Err BadLogs) e v f n h = absurd h
+matrix_line name rows l (Err BadRoleName) e v f n h = absurd h
 matrix_line name rows l (Err NoMemory) e v f n h = tt
 
 as_diff : (name : Text) (rows : List Row) (r : Result Action QuestionFault) → name ≡ codes "diff"
@@ -250,6 +265,7 @@ as_diff name rows (Ok Powers) e h = absurd h
 as_diff name rows (Ok (Paths principal chosen to)) e h = absurd h
 as_diff name rows (Ok (Lint only skip_system)) e h = absurd h
 as_diff name rows (Ok (Unused skip_system)) e h = absurd h
+as_diff name rows (Ok (Least user names called)) e h = absurd h
 as_diff name rows (Ok (Diff before change)) e h = (e, h)
 as_diff name rows (Err EmptyWord) e h = absurd h
 as_diff name rows (Err UrlSubresource) e h = absurd h
@@ -261,6 +277,7 @@ as_diff name rows (Err BadStep) e h = absurd h
 as_diff name rows (Err BadIndirect) e h = absurd h
 as_diff name rows (Err BadEnd) e h = absurd h
 as_diff name rows (Err BadLogs) e h = absurd h
+as_diff name rows (Err BadRoleName) e h = absurd h
 as_diff name rows (Err NoMemory) e h = tt
 
 pub diff_line : (name : Text) (rows : List Row) (l : DiffLine) (r : Result Action QuestionFault) → name ≡ codes "diff" → l ≡ diff_in rows
@@ -282,6 +299,7 @@ as_unused name rows (Ok Powers) e h = absurd h
 as_unused name rows (Ok (Paths principal chosen to)) e h = absurd h
 as_unused name rows (Ok (Lint only skip_system)) e h = absurd h
 as_unused name rows (Ok (Unused skip_system)) e h = (e, h)
+as_unused name rows (Ok (Least user names called)) e h = absurd h
 as_unused name rows (Ok (Diff before change)) e h = absurd h
 as_unused name rows (Err EmptyWord) e h = absurd h
 as_unused name rows (Err UrlSubresource) e h = absurd h
@@ -292,7 +310,8 @@ as_unused name rows (Err BadChange) e h = absurd h
 as_unused name rows (Err BadStep) e h = absurd h
 as_unused name rows (Err BadIndirect) e h = absurd h
 as_unused name rows (Err BadEnd) e h = absurd h
-as_unused name rows (Err BadLogs) e h = (e, h)
+as_unused name rows (Err BadLogs) e h = inl (e, h)
+as_unused name rows (Err BadRoleName) e h = absurd h
 as_unused name rows (Err NoMemory) e h = tt
 
 pub unused_line : (name : Text) (rows : List Row) (l : UnusedParts) (r : Result Action QuestionFault) → name ≡ codes "unused" → l ≡ unused_in rows
@@ -300,3 +319,37 @@ pub unused_line : (name : Text) (rows : List Row) (l : UnusedParts) (r : Result 
     → MatchResult r (DoesAction name rows) (RefusesAction name rows)
 unused_line name rows l r e same h =
     as_unused name rows r e (subst (λ (parts : UnusedParts). MatchResult r (MeansUnused parts) (RefusesUnused parts)) same h)
+
+as_least : (name : Text) (rows : List Row) (r : Result Action QuestionFault) → name ≡ codes "least"
+    → MatchResult r (λ a. AcceptsLeast (least_in rows) × MeansLeast (least_in rows) a) (RefusesLeast (least_in rows))
+    → MatchResult r (DoesAction name rows) (RefusesAction name rows)
+as_least name rows (Ok (CanI principal options question)) e h = absurd h.1
+as_least name rows (Ok (WhoCan options question)) e h = absurd h.1
+as_least name rows (Ok (WaysTo chosen question)) e h = absurd h.1
+as_least name rows (Ok (Rules principal scope)) e h = absurd h.1
+as_least name rows (Ok (Matrix options after limit)) e h = absurd h.1
+as_least name rows (Ok (Lint only skip_system)) e h = absurd h.1
+as_least name rows (Ok (Unused skip_system)) e h = absurd h.1
+as_least name rows (Ok (Least user names called)) e h = (e, h.0, h.1)
+as_least name rows (Ok Universe) e h = absurd h.1
+as_least name rows (Ok Powers) e h = absurd h.1
+as_least name rows (Ok (Paths principal chosen to)) e h = absurd h.1
+as_least name rows (Ok (Diff before change)) e h = absurd h.1
+as_least name rows (Err EmptyWord) e h = absurd h
+as_least name rows (Err UrlSubresource) e h = absurd h
+as_least name rows (Err BadToken) e h = absurd h
+as_least name rows (Err BadPrincipal) e h = inr (e, h)
+as_least name rows (Err BadCode) e h = absurd h
+as_least name rows (Err BadChange) e h = absurd h
+as_least name rows (Err BadStep) e h = absurd h
+as_least name rows (Err BadIndirect) e h = absurd h
+as_least name rows (Err BadEnd) e h = absurd h
+as_least name rows (Err BadLogs) e h = inr (e, h)
+as_least name rows (Err BadRoleName) e h = (e, h)
+as_least name rows (Err NoMemory) e h = tt
+
+pub least_line : (name : Text) (rows : List Row) (l : LeastParts) (r : Result Action QuestionFault) → name ≡ codes "least" → l ≡ least_in rows
+    → MatchResult r (λ a. AcceptsLeast l × MeansLeast l a) (RefusesLeast l)
+    → MatchResult r (DoesAction name rows) (RefusesAction name rows)
+least_line name rows l r e same h =
+    as_least name rows r e (subst (λ (parts : LeastParts). MatchResult r (λ a. AcceptsLeast parts × MeansLeast parts a) (RefusesLeast parts)) same h)

@@ -116,6 +116,14 @@ log_rule = record (new_rule (codes "log")) {
   action = Some Append;
 }
 
+-- `--names`
+abbrev pub names_rule : Rule
+names_rule = flag_rule (codes "names")
+
+-- `--name NAME`
+abbrev pub name_rule : Rule
+name_rule = record (new_rule (codes "name")) { long = Some (codes "name"); value_names = 1 }
+
 -- [FILE]..
 abbrev pub files_rule : Rule
 files_rule = record (new_rule (codes "files")) { value_names = 1; action = Some Append }
@@ -225,6 +233,11 @@ unused_app =
     with_rule (with_rule
     (with_rule (new_app (codes "unused")) log_rule) skip_system_rule) files_rule
 
+-- least --log LOG [--log LOG].. [--names] [--name NAME] WHO [FILE]..
+abbrev pub least_app : App
+least_app = with_who (with_rule
+    (with_rule (with_rule (new_app (codes "least")) log_rule) names_rule) name_rule)
+
 -- the program: it has a version, needs a subcommand, and has no subcommand `help`
 abbrev pub as_program : App → App
 as_program a = record a {
@@ -239,11 +252,14 @@ as_program a = record a {
 abbrev pub bare_app : App
 bare_app = as_program (new_app (codes "rbacaudit"))
 
+-- the subcommands that read logs
+abbrev pub with_log_readers : App → App
+with_log_readers a = with_subcommand (with_subcommand a unused_app.top) least_app.top
+
 -- the whole command line
 unfoldable pub rbac_app : App
 rbac_app =
-    with_subcommand (with_subcommand (with_subcommand (with_subcommand (with_subcommand
+    with_log_readers (with_subcommand (with_subcommand (with_subcommand (with_subcommand
     (with_subcommand (with_subcommand (with_subcommand
     (with_subcommand (with_subcommand bare_app can_i_app.top) who_can_app.top) rules_app.top)
     matrix_app.top) universe_app.top) lint_app.top) powers_app.top) paths_app.top) diff_app.top)
-    unused_app.top

@@ -10,13 +10,14 @@ use Rattle.rbac_question.specs.Lines.{QuestionParts, CanIParts, WhoParts, RulesP
 use Rattle.rbac_question.specs.Lines.{MeansCanI, MeansRules, MeansLint, AcceptsCanI, RefusesCanI}
 use Rattle.rbac_question.specs.Lines.{HasBadToken, HasBadPrincipal, HasBadCode, HasBadChange}
 use Rattle.rbac_question.specs.Lines.{IsMarkGiven, MeansDiff}
+use Rattle.rbac_question.specs.LeastLines.{LeastParts, AcceptsLeast, MeansLeast, RefusesLeast}
 use Rattle.rbac_question.specs.PathsLines.{PathsParts, AcceptsPaths, MeansPaths, RefusesPaths}
-use Rattle.rbac_question.specs.UnusedLines.{UnusedParts, HasBadLogs, MeansUnused}
+use Rattle.rbac_question.specs.UnusedLines.{UnusedParts, MeansUnused, RefusesUnused}
 use Rattle.rbac_question.specs.WhoCanLines.{WhoCanParts, MeansWhoCan, AcceptsWhoCan, RefusesWhoCan}
 use Rattle.rbac_question.specs.declared.command.Action.{Action}
 use Rattle.rbac_question.specs.declared.command.Action.TheVariants.{CanI, WhoCan, WaysTo, Rules}
 use Rattle.rbac_question.specs.declared.command.Action.TheVariants.{Matrix, Universe, Lint, Unused}
-use Rattle.rbac_question.specs.declared.command.Action.TheVariants.{Powers, Paths, Diff}
+use Rattle.rbac_question.specs.declared.command.Action.TheVariants.{Powers, Paths, Diff, Least}
 use Rattle.rbac_question.specs.declared.command.Command.{Command}
 use Rattle.rbac_question.specs.declared.command.VerdictOptions.{VerdictOptions}
 use Rattle.rbac_question.specs.declared.fault.QuestionFault.{QuestionFault}
@@ -42,9 +43,13 @@ files_in name rows = if bytes_eq name (codes "diff")
     then diff_files_in rows
     else texts_at (codes "files") rows
 
--- the logs of the subcommand of that name, in order; only `unused` has any
+-- the subcommand of that name reads logs
+abbrev pub has_logs : Text → Bool
+has_logs name = bytes_eq name (codes "unused") || bytes_eq name (codes "least")
+
+-- the logs of the subcommand of that name, in order
 abbrev pub logs_in : Text → List Row → List Text
-logs_in name rows = if bytes_eq name (codes "unused") then texts_at (codes "log") rows else []
+logs_in name rows = if has_logs name then texts_at (codes "log") rows else []
 
 -- the parts that ask a question
 abbrev pub question_in : List Row → QuestionParts
@@ -133,6 +138,16 @@ unused_in rows = record {
   files = length (texts_at (codes "files") rows);
 }
 
+-- the parts of a `least` line
+abbrev pub least_in : List Row → LeastParts
+least_in rows = record {
+  key = value_at (codes "who") rows;
+  names = has_flag (codes "names") rows;
+  name = first_of (codes "name") rows;
+  logs = texts_at (codes "log") rows;
+  files = length (texts_at (codes "files") rows);
+}
+
 -- the text is a 32-bit number: decimal digits, with an optional plus sign before them
 abbrev pub IsNumberText : Text → Type 0
 IsNumberText text = IsNumeral 10 (without_leading_plus text)
@@ -161,7 +176,8 @@ is_known name = bytes_eq name (codes "can-i")
     || (bytes_eq name (codes "lint")
     || (bytes_eq name (codes "powers")
     || (bytes_eq name (codes "paths")
-    || (bytes_eq name (codes "diff") || bytes_eq name (codes "unused")))))))))
+    || (bytes_eq name (codes "diff")
+    || (bytes_eq name (codes "unused") || bytes_eq name (codes "least"))))))))))
 
 -- what the subcommand of that name does, according to its matches
 abbrev pub DoesAction : Text → List Row → Action → Type 0
@@ -184,6 +200,9 @@ DoesAction name rows (Lint only skip_system) =
     (name ≡ codes "lint") × MeansLint (lint_in rows) (Lint only skip_system)
 DoesAction name rows (Unused skip_system) =
     (name ≡ codes "unused") × MeansUnused (unused_in rows) (Unused skip_system)
+DoesAction name rows (Least user names called) =
+    (name ≡ codes "least") × AcceptsLeast (least_in rows)
+    × MeansLeast (least_in rows) (Least user names called)
 DoesAction name rows Powers = name ≡ codes "powers"
 DoesAction name rows (Paths principal chosen to) =
     (name ≡ codes "paths") × AcceptsPaths (paths_line_in rows)
@@ -205,14 +224,15 @@ Means (Some p) c = MeansRows p.0 p.1 c
 -- ---- refusals
 
 -- the refusal of a subcommand's matches: U4 of `matrix`, U5 of `rules`, U6 of `lint`, U7 of `diff`,
--- U11 of `unused`, U5, U8 and U10 of `paths`, U2 and U3 of `can-i`, U2, U3, U8 and U9 of `who-can`, and none of
--- `universe` and `powers`; out of memory may come at any time
+-- U11 of `unused`, U5, U11 and U12 of `least`, U5, U8 and U10 of `paths`, U2 and U3 of `can-i`, U2,
+-- U3, U8 and U9 of `who-can`, and none of `universe` and `powers`; out of memory may come at any time
 abbrev pub RefusesAction : Text → List Row → QuestionFault → Type 0
 RefusesAction name rows question.NoMemory = Unit {0}
 RefusesAction name rows question.BadToken = (name ≡ codes "matrix")
     × HasBadToken (first_of (codes "after") rows)
-RefusesAction name rows question.BadPrincipal = ((name ≡ codes "rules") ⊎ (name ≡ codes "paths"))
-    × HasBadPrincipal (who_in rows)
+RefusesAction name rows question.BadPrincipal =
+    (((name ≡ codes "rules") ⊎ (name ≡ codes "paths")) × HasBadPrincipal (who_in rows))
+    ⊎ ((name ≡ codes "least") × RefusesLeast (least_in rows) question.BadPrincipal)
 RefusesAction name rows question.BadCode = (name ≡ codes "lint")
     × HasBadCode (first_of (codes "only") rows)
 RefusesAction name rows question.BadStep =
@@ -222,7 +242,11 @@ RefusesAction name rows question.BadIndirect = (name ≡ codes "who-can")
     × RefusesWhoCan (who_can_in rows) question.BadIndirect
 RefusesAction name rows question.BadEnd = (name ≡ codes "paths")
     × RefusesPaths (paths_line_in rows) question.BadEnd
-RefusesAction name rows question.BadLogs = (name ≡ codes "unused") × HasBadLogs (unused_in rows)
+RefusesAction name rows question.BadLogs =
+    ((name ≡ codes "unused") × RefusesUnused (unused_in rows) question.BadLogs)
+    ⊎ ((name ≡ codes "least") × RefusesLeast (least_in rows) question.BadLogs)
+RefusesAction name rows question.BadRoleName = (name ≡ codes "least")
+    × RefusesLeast (least_in rows) question.BadRoleName
 RefusesAction name rows question.BadChange = (name ≡ codes "diff") × HasBadChange (diff_in rows)
 RefusesAction name rows e = ((name ≡ codes "can-i") × RefusesCanI (parts_in rows) e)
     ⊎ ((name ≡ codes "who-can") × RefusesWhoCan (who_can_in rows) e)

@@ -13,13 +13,15 @@ ghost use Rattle.rbac_command.specs.App.{rules_app, matrix_app, universe_app, li
 ghost use Rattle.rbac_command.specs.App.{rbac_app, before_files_rule, after_files_rule, diff_app};
 ghost use Rattle.rbac_command.specs.App.{powers_app, paths_app, steps_rule, to_rule, with_who};
 ghost use Rattle.rbac_command.specs.App.{without_files_rule, with_files_rule, skip_system_rule};
-ghost use Rattle.rbac_command.specs.App.{log_rule, unused_app};
+ghost use Rattle.rbac_command.specs.App.{log_rule, unused_app, names_rule, name_rule, least_app};
+ghost use Rattle.rbac_command.specs.App.{with_log_readers};
 ghost use Rattle.rbac_command.specs.Flags.{flag_rule};
 
 use crate::help::{
-    ALL, CAN_I_MORE, DIFF_MORE, INDIRECT, LINT_MORE, MATRIX_MORE, MORE, NAMESPACE, PATHS_MORE,
-    POWERS_MORE, RULES_ALL, RULES_MORE, RULES_NAMESPACE, STEPS, TO_NAMESPACE, UNIVERSE_MORE,
-    UNUSED_MORE, UNUSED_SKIP_SYSTEM, WHO_CAN_MORE, WHO_CAN_STEPS, WHY, WHY_NOT,
+    ALL, CAN_I_MORE, DIFF_MORE, INDIRECT, LEAST_MORE, LEAST_WHO, LINT_MORE, MATRIX_MORE, MORE,
+    NAMESPACE, PATHS_MORE, POWERS_MORE, RULES_ALL, RULES_MORE, RULES_NAMESPACE, STEPS,
+    TO_NAMESPACE, UNIVERSE_MORE, UNUSED_MORE, UNUSED_SKIP_SYSTEM, WHO, WHO_CAN_MORE, WHO_CAN_STEPS,
+    WHY, WHY_NOT,
 };
 use crate::holder_options::with_holder_options;
 use crate::matrix_options::with_matrix_options;
@@ -169,16 +171,11 @@ fn quiet_arg<'a>(alloc: Global) -> Arg<'a>
     .short('q')
 }
 
-fn who_arg<'a>(alloc: Global) -> Arg<'a>
+fn who_arg<'a>(alloc: Global, help: &'a str) -> Arg<'a>
     ensures rule { rule_of result ≡ who_rule }
     ensures local { result.global ≡ false }
 {
-    word(
-        alloc,
-        "who",
-        "WHO",
-        "u:USER or g:GROUP, e.g. u:alice, u:system:serviceaccount:dev:ci or g:dev",
-    )
+    word(alloc, "who", "WHO", help)
 }
 
 fn verb_arg<'a>(alloc: Global) -> Arg<'a>
@@ -286,6 +283,29 @@ fn log_arg<'a>(alloc: Global) -> Arg<'a>
     .action(ArgAction::Append)
 }
 
+fn names_arg<'a>(alloc: Global) -> Arg<'a>
+    ensures rule { rule_of result ≡ names_rule }
+    ensures local { result.global ≡ false }
+{
+    flag(
+        alloc,
+        "names",
+        "Allow only the object names that WHO asked for (default: rules allow any name)",
+    )
+}
+
+fn name_arg<'a>(alloc: Global) -> Arg<'a>
+    ensures rule { rule_of result ≡ name_rule }
+    ensures local { result.global ≡ false }
+{
+    option(
+        alloc,
+        "name",
+        "NAME",
+        "Name of the roles and bindings (default: least)",
+    )
+}
+
 fn files_arg<'a>(alloc: Global) -> Arg<'a>
     ensures rule { rule_of result ≡ files_rule }
     ensures local { result.global ≡ false }
@@ -387,12 +407,12 @@ fn with_question<'a>(alloc: Global, command: Built<'a>) -> Built<'a>
     with(command, files_arg(alloc))
 }
 
-fn with_who<'a>(alloc: Global, command: Built<'a>) -> Built<'a>
+fn with_who<'a>(alloc: Global, command: Built<'a>, help: &'a str) -> Built<'a>
     requires { IfOk command (λ c. (fields_of c).has_globals ≡ false) }
     ensures app { IfOk result (λ r. IsOkAnd command.entry (λ c. app_of r ≡ with_who (app_of c))) }
     ensures local { IfOk result (λ r. (fields_of r).has_globals ≡ false) }
 {
-    let command = with(command, who_arg(alloc));
+    let command = with(command, who_arg(alloc, help));
     with(command, files_arg(alloc))
 }
 
@@ -453,7 +473,7 @@ fn rules<'a>(alloc: Global) -> Built<'a>
     let command = with_groups(alloc, Ok(command));
     let command = with(command, namespace_arg(alloc, RULES_NAMESPACE));
     let command = with(command, all_arg(alloc, RULES_ALL));
-    with_who(alloc, command)
+    with_who(alloc, command, WHO)
 }
 
 fn matrix<'a>(alloc: Global) -> Built<'a>
@@ -527,7 +547,7 @@ fn paths<'a>(alloc: Global) -> Built<'a>
     let command = with(command, steps_arg(alloc, STEPS));
     let command = with(command, to_arg(alloc));
     let command = with(command, namespace_arg(alloc, TO_NAMESPACE));
-    with_who(alloc, command)
+    with_who(alloc, command, WHO)
 }
 
 fn diff<'a>(alloc: Global) -> Built<'a>
@@ -555,19 +575,42 @@ fn with_sub<'a>(command: Command<'a>, sub: Built<'a>) -> Built<'a>
     command.subcommand(sub?)
 }
 
+// A command with this name that reads logs, and no other arguments.
+fn with_logs<'a>(alloc: Global, name: &'a str, about: &'a str, more: &'a str) -> Built<'a>
+    ensures app { IfOk result (λ r. app_of r ≡ with_rule (new_app name.entry.now) log_rule) }
+    ensures local { IfOk result (λ r. (fields_of r).has_globals ≡ false) }
+{
+    let command = named(alloc, name, about, more);
+    with(Ok(command), log_arg(alloc))
+}
+
 fn unused<'a>(alloc: Global) -> Built<'a>
     ensures app { IfOk result (λ r. app_of r ≡ unused_app) }
     ensures local { IfOk result (λ r. (fields_of r).has_globals ≡ false) }
 {
-    let command = named(
+    let command = with_logs(
         alloc,
         "unused",
         "List what no request of audit logs used, so that it can go: status 1 if there is anything",
         UNUSED_MORE,
     );
-    let command = with(Ok(command), log_arg(alloc));
     let command = with(command, flag(alloc, "skip-system", UNUSED_SKIP_SYSTEM));
     with(command, files_arg(alloc))
+}
+
+fn least<'a>(alloc: Global) -> Built<'a>
+    ensures app { IfOk result (λ r. app_of r ≡ least_app) }
+    ensures local { IfOk result (λ r. (fields_of r).has_globals ≡ false) }
+{
+    let command = with_logs(
+        alloc,
+        "least",
+        "Print the least roles and bindings that let WHO do what WHO did by audit logs, as JSON",
+        LEAST_MORE,
+    );
+    let command = with(command, names_arg(alloc));
+    let command = with(command, name_arg(alloc));
+    with_who(alloc, command, LEAST_WHO)
 }
 
 // The program, without its subcommands. Usage texts call it `rbacaudit`, whatever the first word
@@ -598,6 +641,14 @@ fn asking<'a>(alloc: Global) -> Built<'a>
     with_sub(command, rules(alloc))
 }
 
+// Adds the subcommands that read logs.
+fn with_log_readers<'a>(alloc: Global, command: Command<'a>) -> Built<'a>
+    ensures { IfOk result (λ r. app_of r ≡ with_log_readers (app_of command.entry)) }
+{
+    let command = with_sub(command, unused(alloc))?;
+    with_sub(command, least(alloc))
+}
+
 /// The whole command line: `rbacaudit` with its subcommands.
 #[tactic(auto, unfolding(crate::specs::App::rbac_app))]
 pub(crate) fn program<'a>(alloc: Global) -> Result<Command<'a>, AllocError>
@@ -610,5 +661,5 @@ pub(crate) fn program<'a>(alloc: Global) -> Result<Command<'a>, AllocError>
     let command = with_sub(command, powers(alloc))?;
     let command = with_sub(command, paths(alloc))?;
     let command = with_sub(command, diff(alloc))?;
-    with_sub(command, unused(alloc))
+    with_log_readers(alloc, command)
 }

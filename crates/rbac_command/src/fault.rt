@@ -13,7 +13,7 @@ pub enum UsageFault {
     /// U1: `clap` refused the words, or help or the version was asked for. `Display` gives `clap`'s
     /// text, and `use_stderr` whether it is a refusal.
     Refused(clap::Error),
-    /// U2 to U11: the words are refused for what they mean; or out of memory.
+    /// U2 to U12: the words are refused for what they mean; or out of memory.
     Question(QuestionFault),
 }
 

@@ -258,7 +258,30 @@ Examples:
   rbacaudit unused --log audit-1.log --log audit-2.log --skip-system *.json
   zcat audit*.gz | rbacaudit unused --log - cluster.json namespaced.json";
 
-// The help texts of options that several commands have, of --indirect, and of --skip-system.
+pub(crate) const LEAST_MORE: &str =
+    "The output is one List, which kubectl apply -f takes. For each namespace where WHO did something,
+it has a Role and a RoleBinding; for requests in the whole cluster and for URLs, a ClusterRole and a
+ClusterRoleBinding. All of them have the same NAME. If WHO did nothing, the List is empty.
+
+By these bindings alone, WHO may do what WHO did: the requests of the logs that WHO made and that the
+roles and bindings in FILEs allow, by whichever binding. A rule allows any object name; with --names,
+it allows only the names that WHO asked for, and requests without a name, such as list, have rules of
+their own. A request isn't written if its own words would be wildcards in a rule, such as a resource
+*, or if its URL isn't UTF-8. Short logs lack the requests of rare jobs.
+
+WHO keeps what other bindings grant: rules lists them. For a service account,
+u:system:serviceaccount:NS:NAME, the subject of the bindings is the ServiceAccount. Logs are as in
+unused --help.
+
+The exit status is 0; 2 is an error.
+
+Examples:
+  rbacaudit least --log audit.log u:alice cluster.json namespaced.json > least.json
+  rbacaudit least --log audit.log --names --name ci u:system:serviceaccount:shop:ci *.json
+  zcat audit*.gz | rbacaudit least --log - u:alice cluster.json namespaced.json";
+
+// The help texts of options and words that several commands have, of --indirect, and of
+// --skip-system.
 pub(crate) const NAMESPACE: &str = "Namespace to check (default: default)";
 
 pub(crate) const ALL: &str =
@@ -283,6 +306,12 @@ pub(crate) const TO_NAMESPACE: &str =
 
 pub(crate) const UNUSED_SKIP_SYSTEM: &str =
     "Leave out bindings whose names begin with system:, which are Kubernetes' own";
+
+pub(crate) const WHO: &str =
+    "u:USER or g:GROUP, e.g. u:alice, u:system:serviceaccount:dev:ci or g:dev";
+
+pub(crate) const LEAST_WHO: &str =
+    "u:USER, e.g. u:alice or u:system:serviceaccount:dev:ci; a group is refused";
 
 pub(crate) const RULES_NAMESPACE: &str =
     "Namespace whose RoleBindings count, with all ClusterRoleBindings (default: any)";

@@ -12,7 +12,8 @@ ghost use Rattle.rbac_command.specs.Meaning.{IsNumberAt, files_in, diff_files_in
 ghost use Rattle.rbac_command.specs.Meaning.{parts_in, is_known, DoesAction, RefusesAction, Means};
 ghost use Rattle.rbac_command.specs.Meaning.{IsCauseOf, IsUsageFault, IsAnswer, verdict_options_in, who_can_in};
 ghost use Rattle.rbac_command.specs.Meaning.{who_in, rules_line_in, paths_line_in};
-ghost use Rattle.rbac_command.specs.Meaning.{lint_in, diff_in, logs_in, unused_in};
+ghost use Rattle.rbac_command.specs.Meaning.{lint_in, diff_in, has_logs, logs_in, unused_in};
+ghost use Rattle.rbac_command.specs.Meaning.{least_in};
 ghost use Rattle.rbac_command.specs.Values.{value_at, has_flag, texts_at};
 
 use crate::build::program;
@@ -22,7 +23,7 @@ use crate::matrix_options::matrix_options_of;
 use clap::ArgMatches;
 use clap::error::ErrorKind;
 use rbac_question::{
-    Action, CanILine, Command, DiffLine, LintLine, MatrixLine, PathsLine, QuestionFault,
+    Action, CanILine, Command, DiffLine, LeastLine, LintLine, MatrixLine, PathsLine, QuestionFault,
     QuestionLine, RulesLine, UnusedLine, VerdictOptions, WhoCanLine, WhoLine,
 };
 use std::alloc::{AllocError, Global};
@@ -213,6 +214,19 @@ fn unused_line_of<'m, 'a>(matches: &'m ArgMatches<'a>) -> UnusedLine<'m, 'a>
     }
 }
 
+// The parts of a `least` line.
+fn least_line_of<'m, 'a>(matches: &'m ArgMatches<'a>) -> LeastLine<'m, 'a>
+    ensures { result ≡ least_in (rows_of (found_of matches.now)) }
+{
+    LeastLine {
+        key: text_of(matches, "who"),
+        names: flag_of(matches, "names"),
+        name: value_of(matches, "name"),
+        logs: values_of(matches, "log"),
+        files: count_of(matches, "files"),
+    }
+}
+
 // Adds the files of a `diff` line: those of each option, in this order.
 fn add_diff_files(
     alloc: Global,
@@ -242,13 +256,20 @@ fn files_of(alloc: Global, name: &str, matches: &ArgMatches<'_>) -> Result<Vec<S
     Ok(files)
 }
 
+// Whether the subcommand of that name reads logs.
+fn has_logs(name: &str) -> bool
+    ensures { result ≡ has_logs name.now }
+{
+    name == "unused" || name == "least"
+}
+
 // The logs of the subcommand of that name.
 fn logs_of(alloc: Global, name: &str, matches: &ArgMatches<'_>) -> Result<Vec<String>, AllocError>
     ensures { IfOk result
         (λ v. map string_bytes v.items ≡ logs_in name.now (rows_of (found_of matches.now))) }
 {
     let mut logs = Vec::new(alloc);
-    if name == "unused" {
+    if has_logs(name) {
         add_texts(alloc, matches, "log", &mut logs)?;
     }
     Ok(logs)
@@ -321,6 +342,9 @@ fn action_of(alloc: Global, name: &str, matches: &ArgMatches<'_>) -> Result<Acti
     if name == "unused" {
         return Action::unused(&unused_line_of(matches));
     }
+    if name == "least" {
+        return Action::least(alloc, &least_line_of(matches));
+    }
     Action::can_i(alloc, &line_of(matches))
 }
 
@@ -354,7 +378,7 @@ fn meaning_of(alloc: Global, matches: &ArgMatches<'_>) -> Result<Command, Questi
 
 /// The command that the words mean; the first word is the program's name.
 ///
-/// U1 if `clap` refuses the words, or if help or the version is asked for; otherwise U2 to U11, or
+/// U1 if `clap` refuses the words, or if help or the version is asked for; otherwise U2 to U12, or
 /// out of memory.
 pub fn command_of(alloc: Global, words: &[String]) -> Result<Command, UsageFault>
     ensures { IsAnswer (map string_bytes words.now) result }

@@ -1,5 +1,6 @@
+use Rattle.std.proofs.Common.{◌∙◌, ap}
 use Rattle.std.proofs.lemmas.Result.{IfOk-weaker}
-use Rattle.rbac_command.specs.App.{matrix_app, universe_app, lint_app, powers_app, paths_app, diff_app, unused_app, rbac_app}
+use Rattle.rbac_command.specs.App.{matrix_app, universe_app, lint_app, powers_app, paths_app, diff_app, rbac_app, with_log_readers}
 use Rattle.rbac_command.proofs.Steps.{added}
 use Rattle.rbac_command.proofs.build.program.Goals as goal
 
@@ -12,4 +13,4 @@ returns c =
     let seventh = added c.powers.result _ _ _ powers_app sixth c.powers.ensures.app c.in_ok-command-5.ensures.app in
     let eighth = added c.paths.result _ _ _ paths_app seventh c.paths.ensures.app c.in_ok-command-6.ensures.app in
     let ninth = added c.diff.result _ _ _ diff_app eighth c.diff.ensures.app c.in_ok-command-7.ensures.app in
-    IfOk-weaker c.with_sub-7.result _ _ (λ m h. added c.unused.result _ _ _ unused_app ninth c.unused.ensures.app h) c.with_sub-7.ensures.app
+    IfOk-weaker c.with_log_readers.result _ _ (λ m h. h ∙ ap with_log_readers ninth) c.with_log_readers.ensures

@@ -2,7 +2,7 @@ use Rattle.std.proofs.Common.{◌∙◌, sym}
 use Rattle.std.specs.Prelude.{codes}
 use Rattle.std.proofs.lemmas.Slice.Eq.{bytes_eq-Decides}
 use Rattle.clap.specs.Words.{found_of, rows_of}
-use Rattle.rbac_command.proofs.Actions.{the_other, can_i_line, diff_line, lint_line, matrix_line, paths_line, rules_line, unused_line, who_can_line}
+use Rattle.rbac_command.proofs.Actions.{the_other, can_i_line, diff_line, least_line, lint_line, matrix_line, paths_line, rules_line, unused_line, who_can_line}
 use Rattle.rbac_command.proofs.read.action_of.Goals as goal
 
 pub returns-then-eq : goal.returns-then-eq
@@ -47,10 +47,15 @@ returns-then-eq-9 c =
     unused_line c.args.name.now (rows_of (found_of c.args.matches.now)) _ c.unused.result
     ((bytes_eq-Decides c.args.name.now (codes "unused")).0 (sym c.eq-9.ensures ∙ c.if-eq-9.true)) c.unused_line_of.ensures c.unused.ensures
 
+pub returns-then-eq-10 : goal.returns-then-eq-10
+returns-then-eq-10 c =
+    least_line c.args.name.now (rows_of (found_of c.args.matches.now)) _ c.least.result
+    ((bytes_eq-Decides c.args.name.now (codes "least")).0 (sym c.eq-10.ensures ∙ c.if-eq-10.true)) c.least_line_of.ensures c.least.ensures.answer
+
 pub returns : goal.returns
 returns c =
     can_i_line c.args.name.now (rows_of (found_of c.args.matches.now)) _ c.can_i.result
-    (the_other c.args.name.now c.eq.result c.eq-2.result c.eq-3.result c.eq-4.result c.eq-5.result c.eq-6.result c.eq-7.result c.eq-8.result c.eq-9.result c.requires c.eq.ensures c.if-eq.false
+    (the_other c.args.name.now c.eq.result c.eq-2.result c.eq-3.result c.eq-4.result c.eq-5.result c.eq-6.result c.eq-7.result c.eq-8.result c.eq-9.result c.eq-10.result c.requires c.eq.ensures c.if-eq.false
     c.eq-2.ensures c.if-eq-2.false c.eq-3.ensures c.if-eq-3.false c.eq-4.ensures c.if-eq-4.false c.eq-5.ensures c.if-eq-5.false c.eq-6.ensures c.if-eq-6.false
-    c.eq-7.ensures c.if-eq-7.false c.eq-8.ensures c.if-eq-8.false c.eq-9.ensures c.if-eq-9.false)
+    c.eq-7.ensures c.if-eq-7.false c.eq-8.ensures c.if-eq-8.false c.eq-9.ensures c.if-eq-9.false c.eq-10.ensures c.if-eq-10.false)
     c.line_of.ensures c.can_i.ensures.answer
