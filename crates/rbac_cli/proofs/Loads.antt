@@ -12,7 +12,7 @@ use Rattle.rbac_model.specs.declared.objects.Object.{Object}
 use Rattle.rbac_diff.specs.Requests.{RequestView}
 use Rattle.rbac_manifest.specs.Load.{HasTooManyGrants, LoadedView, document_fault, fault_from, file_refusal, in_file}
 use Rattle.rbac_question.specs.declared.command.Action.{Action}
-use Rattle.rbac_question.specs.declared.command.Action.TheVariants.{CanI, WhoCan, WaysTo, Rules, Matrix, Lint, Unused, Powers, Paths, Diff}
+use Rattle.rbac_question.specs.declared.command.Action.TheVariants.{CanI, WhoCan, WaysTo, Rules, Matrix, Least, Lint, Unused, Powers, Paths, Diff}
 use Rattle.rbac_question.specs.declared.command.Action.TheVariants as action
 use Rattle.rbac_question.specs.declared.command.Change.{Change}
 use Rattle.rbac_question.specs.declared.command.Change.TheVariants.{Over}
@@ -60,8 +60,11 @@ over (Diff n change) inputs log (Single l) h = h
 over (Diff n change) inputs log (Pair x y) h = tt
 over (Diff n change) inputs log (Used l requests) h = h
 over (Unused skip) inputs log (Single l) h = h
+over (Least user names name) inputs log (Single l) h = h
 over (Unused skip) inputs log (Pair x y) h = h
+over (Least user names name) inputs log (Pair x y) h = h
 over (Unused skip) inputs log (Used l requests) h = tt
+over (Least user names name) inputs log (Used l requests) h = tt
 
 -- ---- the file of a fault is one of the inputs
 
@@ -252,18 +255,4 @@ of_diff P (Lint only skip) before after is h = absurd is
 of_diff P Powers before after is h = absurd is
 of_diff P (Paths who steps to) before after is h = absurd is
 of_diff P (Unused skip) before after is h = absurd is
-
--- what is printed for `unused` is what is printed for the one action that is answered over a log
-pub of_unused : (P : Action → Type 0) (a : Action) (l : LoadedView) (log : List RequestView) (skips : Bool) → IsForAction a (Used l log)
-    → ((skip : Bool) → a ≡ Unused skip → skips ≡ skip) → P (Unused skips) → P a
-of_unused P (Unused skip) l log skips is same h = subst (λ (b : Bool). P (Unused b)) (same skip refl) h
-of_unused P (CanI who options q) l log skips is same h = absurd is
-of_unused P (WhoCan options q) l log skips is same h = absurd is
-of_unused P (WaysTo steps q) l log skips is same h = absurd is
-of_unused P (Rules who scope) l log skips is same h = absurd is
-of_unused P (Matrix options after limit) l log skips is same h = absurd is
-of_unused P (Lint only skip) l log skips is same h = absurd is
-of_unused P Powers l log skips is same h = absurd is
-of_unused P (Paths who steps to) l log skips is same h = absurd is
-of_unused P action.Universe l log skips is same h = absurd is
-of_unused P (Diff n change) l log skips is same h = absurd is
+of_diff P (Least user names name) before after is h = absurd is

@@ -27,7 +27,10 @@ use Rattle.rbac_index.proofs.ListedLemmas.{one_listed}
 use Rattle.rbac_manifest.specs.Load.{LoadedView}
 use Rattle.rbac_lint.proofs.OneLines.{one_wanted}
 use Rattle.rbac_diff.specs.Requests.{RequestView}
+use Rattle.rbac_use.specs.LeastRules.{HaveSameRules, IsLeastOf}
 use Rattle.rbac_use.specs.Unused.{AreUnused}
+use Rattle.rbac_use.specs.declared.least.Least.{Least as LeastPolicy}
+use Rattle.rbac_document.specs.LeastDocument.{least_text}
 use Rattle.rbac_use.specs.declared.unused.Unused.{Unused as UnusedPart}
 use Rattle.rbac_diff.proofs.OneChanges.{one_changes}
 use Rattle.rbac_paths.specs.Nodes.{Somebody}
@@ -39,7 +42,7 @@ use Rattle.rbac_paths.specs.WaysTo.{AreWaysTo, WayView}
 use Rattle.rbac_steps.specs.declared.steps.Step.{Step}
 use Rattle.rbac_document.proofs.OneDocument.{one_document}
 use Rattle.rbac_question.specs.declared.command.Action.{Action}
-use Rattle.rbac_question.specs.declared.command.Action.TheVariants.{CanI, WhoCan, WaysTo, Rules, Matrix, Universe, Lint, Unused, Powers, Paths, Diff}
+use Rattle.rbac_question.specs.declared.command.Action.TheVariants.{CanI, WhoCan, WaysTo, Rules, Matrix, Universe, Least, Lint, Unused, Powers, Paths, Diff}
 use Rattle.rbac_question.specs.declared.command.HolderOptions.{HolderOptions}
 use Rattle.rbac_question.specs.declared.command.MatrixOptions.{MatrixOptions}
 use Rattle.rbac_question.specs.declared.command.Question.{Question}
@@ -277,7 +280,15 @@ abbrev pub UnusedOne : Type 0
 UnusedOne = (p : PolicyView) (log other : List RequestView) (skip : Bool) (xs others : List UnusedPart) → ((r : RequestView) → Contains log r ↔ Contains other r)
     → AreUnused p log skip xs → AreUnused p other skip others → xs ≡ others
 
-module _ (powers_one : PowersOne) (paths_one : PathsOne) (path_one : PathOne) (ways_one : WaysOne) (unused_one : UnusedOne) where
+abbrev pub LeastOne : Type 0
+LeastOne = (p : PolicyView) (log other : List RequestView) (user : Text) (names : Bool) (a b : LeastPolicy) → ((r : RequestView) → Contains log r ↔ Contains other r)
+    → IsLeastOf p log user names a → IsLeastOf p other user names b → HaveSameRules a b
+
+-- least policies with the same rules have one document
+least_alike : (name user : Text) (a b : LeastPolicy) → HaveSameRules a b → least_text name user a ≡ least_text name user b
+least_alike name user a b (everywhere, namespaces) = rw (everywhere, namespaces) refl
+
+module _ (powers_one : PowersOne) (paths_one : PathsOne) (path_one : PathOne) (ways_one : WaysOne) (unused_one : UnusedOne) (least_one : LeastOne) where
   one_listing : (l : LoadedView) (who : Who) (steps : List Step) (to : Option PathEnd) (xs listed others : List PathView) → ArePathsOf l.policy l.principals steps who xs
       → AreListed (Somebody who) to xs listed → AreListed (Somebody who) to xs others → listed ≡ others
   one_listing l who steps None xs listed others are e f = e ∙ sym f
@@ -289,6 +300,12 @@ module _ (powers_one : PowersOne) (paths_one : PathsOne) (path_one : PathOne) (w
   one_unused l log logged skip text other status ending same (xs, are, e, s) (ys, those, f, t) =
       let one = unused_one l.policy log logged skip xs ys same are those in
       (e ∙ ap (unused_text l.policy) one ∙ sym f, s ∙ ap unused_status one ∙ sym t)
+
+  pub one_least : (l : LoadedView) (log logged : List RequestView) (user : Text) (names : Bool) (name text other : Text) (status ending : Status) → ((r : RequestView) → Contains log r ↔ Contains logged r)
+      → Answers (Used l log) (Least user names name) text status → Answers (Used l logged) (Least user names name) other ending → (text ≡ other) × (status ≡ ending)
+  one_least l log logged user names name text other status ending same ((a, is, e), s) ((b, too, f), t) =
+      let one = least_one l.policy log logged user names a b same is too in
+      (e ∙ least_alike name user a b one ∙ sym f, s ∙ sym t)
 
   pub one_answer : (e : Exports) (action : Action) (text other : List ℕ) (status ending : Status) → Answers e action text status → Answers e action other ending
       → (text ≡ other) × (status ≡ ending)
@@ -337,7 +354,9 @@ module _ (powers_one : PowersOne) (paths_one : PathsOne) (path_one : PathOne) (w
   one_answer (Pair before after) Powers text other status ending a b = absurd a
   one_answer (Pair before after) (Paths who steps to) text other status ending a b = absurd a
   one_answer (Single l) (Unused skip) text other status ending a b = absurd a
+  one_answer (Single l) (Least user names name) text other status ending a b = absurd a
   one_answer (Pair before after) (Unused skip) text other status ending a b = absurd a
+  one_answer (Pair before after) (Least user names name) text other status ending a b = absurd a
   one_answer (Used l log) (CanI who options q) text other status ending a b = absurd a
   one_answer (Used l log) (WhoCan options q) text other status ending a b = absurd a
   one_answer (Used l log) (WaysTo steps q) text other status ending a b = absurd a
@@ -349,3 +368,4 @@ module _ (powers_one : PowersOne) (paths_one : PathsOne) (path_one : PathOne) (w
   one_answer (Used l log) (Paths who steps to) text other status ending a b = absurd a
   one_answer (Used l log) (Diff n change) text other status ending a b = absurd a
   one_answer (Used l log) (Unused skip) text other status ending a b = one_unused l log log skip text other status ending (λ r. (λ h. h, λ h. h)) a b
+  one_answer (Used l log) (Least user names name) text other status ending a b = one_least l log log user names name text other status ending (λ r. (λ h. h, λ h. h)) a b

@@ -14,7 +14,7 @@ use Rattle.std.specs.Prelude.{Option, Some, None}
 use Rattle.std.proofs.lemmas.Option.{same_Some}
 use Rattle.rbac_diff.specs.Requests.{RequestView}
 use Rattle.rbac_question.specs.declared.command.Action.{Action}
-use Rattle.rbac_question.specs.declared.command.Action.TheVariants.{CanI, WhoCan, WaysTo, Rules, Matrix, Lint, Unused, Powers, Paths, Diff}
+use Rattle.rbac_question.specs.declared.command.Action.TheVariants.{CanI, WhoCan, WaysTo, Rules, Matrix, Least, Lint, Unused, Powers, Paths, Diff}
 use Rattle.rbac_question.specs.declared.command.Action.TheVariants as action
 use Rattle.rbac_question.specs.declared.command.Command.{Command}
 use Rattle.rbac_cli.specs.Exports.{AreLoaded, AreInputsRefused, IsSide, IsSideRefused, behind}
@@ -25,7 +25,7 @@ use Rattle.rbac_cli.specs.Ends.{Ends, HaveSameRequests, LacksUniverse, IsUnstopp
 use Rattle.rbac_cli.specs.declared.outcome.Status.{Status}
 use Rattle.rbac_cli.specs.declared.outcome.RunFault.{RunFault}
 use Rattle.rbac_cli.specs.declared.outcome.RunFault.TheVariants.{Load, Universe, Memory, Write}
-use Rattle.rbac_cli.proofs.OneAnswer.{PathOne, PathsOne, PowersOne, UnusedOne, WaysOne, one_answer, one_unused}
+use Rattle.rbac_cli.proofs.OneAnswer.{LeastOne, PathOne, PathsOne, PowersOne, UnusedOne, WaysOne, one_answer, one_least, one_unused}
 
 -- what is known of loading and of universes
 abbrev pub LoadsOne : Type 0
@@ -76,6 +76,7 @@ lacks_for_one (Single l) (Paths who steps to) f g a b = absurd a
 lacks_for_one (Single l) (Diff n change) f g a b = absurd a
 lacks_for_one (Single l) (Matrix options after limit) f g a b = same_universe_fault l.lists f g a.0 a.1 b.0 b.1
 lacks_for_one (Single l) (Unused skip) f g a b = absurd a
+lacks_for_one (Single l) (Least user names name) f g a b = absurd a
 lacks_for_one (Pair before after) action f g a b = absurd a
 lacks_for_one (Used l log) action f g a b = absurd a
 
@@ -102,7 +103,7 @@ same_back log logged same r = ((same r).1, (same r).0)
 none_and_some : {T : Type 0} (o : Option T) (x : T) → o ≡ None → o ≡ Some x → ⊥
 none_and_some o x none some = cc
 
-module _ (loads_one : LoadsOne) (no_fault : HasNoFault) (one_fault : HasOneFault) (resolves_one : ResolvesOne) (few_enough : HasNoTooMany) (no_universe_fault : HasNoUniverseFault) (powers_one : PowersOne) (paths_one : PathsOne) (path_one : PathOne) (ways_one : WaysOne) (unused_one : UnusedOne) where
+module _ (loads_one : LoadsOne) (no_fault : HasNoFault) (one_fault : HasOneFault) (resolves_one : ResolvesOne) (few_enough : HasNoTooMany) (no_universe_fault : HasNoUniverseFault) (powers_one : PowersOne) (paths_one : PathsOne) (path_one : PathOne) (ways_one : WaysOne) (unused_one : UnusedOne) (least_one : LeastOne) where
   -- what has an answer lacks no universe
   not_lacking : (e : Exports) (action : Action) (text : List ℕ) (status : Status) (f : UniverseFault) → Answers e action text status → LacksUniverse e action f → ⊥
   not_lacking (Single l) (CanI who options q) text status f a b = b
@@ -116,6 +117,7 @@ module _ (loads_one : LoadsOne) (no_fault : HasNoFault) (one_fault : HasOneFault
   not_lacking (Single l) (Diff n change) text status f a b = b
   not_lacking (Single l) (Matrix options after limit) text status f (u, rows, is, listed, e, zero) b = no_universe_fault l.lists u f is b.1 b.0
   not_lacking (Single l) (Unused skip) text status f a b = b
+  not_lacking (Single l) (Least user names name) text status f a b = b
   not_lacking (Pair before after) action text status f a b = b
   not_lacking (Used l log) action text status f a b = b
 
@@ -143,10 +145,16 @@ module _ (loads_one : LoadsOne) (no_fault : HasNoFault) (one_fault : HasOneFault
   one_loaded (Diff n change) inputs log logged same (Pair x y) (Used m requests) a b = absurd b
   one_loaded (Unused skip) inputs log logged same (Used l requests) (Used m others) a b =
       (loads_one inputs l m a.0 b.0, rw (a.1, b.1) same)
+  one_loaded (Least user names name) inputs log logged same (Used l requests) (Used m others) a b =
+      (loads_one inputs l m a.0 b.0, rw (a.1, b.1) same)
   one_loaded (Unused skip) inputs log logged same (Single l) d a b = absurd a
+  one_loaded (Least user names name) inputs log logged same (Single l) d a b = absurd a
   one_loaded (Unused skip) inputs log logged same (Pair x y) d a b = absurd a
+  one_loaded (Least user names name) inputs log logged same (Pair x y) d a b = absurd a
   one_loaded (Unused skip) inputs log logged same (Used l requests) (Single m) a b = absurd b
+  one_loaded (Least user names name) inputs log logged same (Used l requests) (Single m) a b = absurd b
   one_loaded (Unused skip) inputs log logged same (Used l requests) (Pair x y) a b = absurd b
+  one_loaded (Least user names name) inputs log logged same (Used l requests) (Pair x y) a b = absurd b
   one_loaded (CanI who options q) inputs log logged same (Single l) (Single m) a b = one_single inputs l m a b
   one_loaded (WhoCan options q) inputs log logged same (Single l) (Single m) a b = one_single inputs l m a b
   one_loaded (WaysTo steps q) inputs log logged same (Single l) (Single m) a b = one_single inputs l m a b
@@ -197,16 +205,19 @@ module _ (loads_one : LoadsOne) (no_fault : HasNoFault) (one_fault : HasOneFault
   answers_alike : (e d : Exports) (action : Action) (text other : List ℕ) (status ending : Status) → IsSameOver e d → Answers e action text status → Answers d action other ending
       → (text ≡ other) × (status ≡ ending)
   answers_alike (Single l) d action text other status ending same a b =
-      one_answer powers_one paths_one path_one ways_one unused_one d action text other status ending (subst (λ (x : Exports). Answers x action text status) same a) b
+      one_answer powers_one paths_one path_one ways_one unused_one least_one d action text other status ending (subst (λ (x : Exports). Answers x action text status) same a) b
   answers_alike (Pair x y) d action text other status ending same a b =
-      one_answer powers_one paths_one path_one ways_one unused_one d action text other status ending (subst (λ (z : Exports). Answers z action text status) same a) b
+      one_answer powers_one paths_one path_one ways_one unused_one least_one d action text other status ending (subst (λ (z : Exports). Answers z action text status) same a) b
   answers_alike (Used l log) (Single m) action text other status ending same a b =
-      one_answer powers_one paths_one path_one ways_one unused_one (Single m) action text other status ending (subst (λ (x : Exports). Answers x action text status) same a) b
+      one_answer powers_one paths_one path_one ways_one unused_one least_one (Single m) action text other status ending (subst (λ (x : Exports). Answers x action text status) same a) b
   answers_alike (Used l log) (Pair x y) action text other status ending same a b =
-      one_answer powers_one paths_one path_one ways_one unused_one (Pair x y) action text other status ending (subst (λ (z : Exports). Answers z action text status) same a) b
+      one_answer powers_one paths_one path_one ways_one unused_one least_one (Pair x y) action text other status ending (subst (λ (z : Exports). Answers z action text status) same a) b
   answers_alike (Used l log) (Used m logged) (Unused skip) text other status ending same a b =
-      one_unused powers_one paths_one path_one ways_one unused_one m log logged skip text other status ending same.1
+      one_unused powers_one paths_one path_one ways_one unused_one least_one m log logged skip text other status ending same.1
       (subst (λ (x : LoadedView). Answers (Used x log) (Unused skip) text status) same.0 a) b
+  answers_alike (Used l log) (Used m logged) (Least user names name) text other status ending same a b =
+      one_least powers_one paths_one path_one ways_one unused_one least_one m log logged user names name text other status ending same.1
+      (subst (λ (x : LoadedView). Answers (Used x log) (Least user names name) text status) same.0 a) b
   answers_alike (Used l log) (Used m logged) (CanI who options q) text other status ending same a b = absurd a
   answers_alike (Used l log) (Used m logged) (WhoCan options q) text other status ending same a b = absurd a
   answers_alike (Used l log) (Used m logged) (WaysTo steps q) text other status ending same a b = absurd a
@@ -224,8 +235,11 @@ module _ (loads_one : LoadsOne) (no_fault : HasNoFault) (one_fault : HasOneFault
   not_refused (Diff n change) inputs log (Single l) f a h = a
   not_refused (Diff n change) inputs log (Used l requests) f a h = a
   not_refused (Unused skip) inputs log (Used l requests) f a h = no_fault inputs l f a.0 h
+  not_refused (Least user names name) inputs log (Used l requests) f a h = no_fault inputs l f a.0 h
   not_refused (Unused skip) inputs log (Single l) f a h = a
+  not_refused (Least user names name) inputs log (Single l) f a h = a
   not_refused (Unused skip) inputs log (Pair x y) f a h = a
+  not_refused (Least user names name) inputs log (Pair x y) f a h = a
   not_refused (CanI who options q) inputs log (Single l) f a h = no_fault inputs l f a h
   not_refused (WhoCan options q) inputs log (Single l) f a h = no_fault inputs l f a h
   not_refused (WaysTo steps q) inputs log (Single l) f a h = no_fault inputs l f a h
@@ -268,6 +282,7 @@ module _ (loads_one : LoadsOne) (no_fault : HasNoFault) (one_fault : HasOneFault
   one_refusal action.Universe inputs f g a b = one_fault inputs f g a b
   one_refusal (Lint only skip) inputs f g a b = one_fault inputs f g a b
   one_refusal (Unused skip) inputs f g a b = one_fault inputs f g a b
+  one_refusal (Least user names name) inputs f g a b = one_fault inputs f g a b
   one_refusal Powers inputs f g a b = one_fault inputs f g a b
   one_refusal (Paths who steps to) inputs f g a b = one_fault inputs f g a b
 

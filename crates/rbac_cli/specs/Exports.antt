@@ -11,7 +11,7 @@ use Rattle.rbac_manifest.specs.Load.{all_contents, document_fault}
 use Rattle.rbac_manifest.specs.declared.fault.At.{At}
 use Rattle.rbac_manifest.specs.declared.fault.LoadFault.{LoadFault}
 use Rattle.rbac_question.specs.declared.command.Action.{Action}
-use Rattle.rbac_question.specs.declared.command.Action.TheVariants.{Diff, Unused}
+use Rattle.rbac_question.specs.declared.command.Action.TheVariants.{Diff, Least, Unused}
 use Rattle.rbac_question.specs.declared.command.Change.{Change}
 use Rattle.rbac_question.specs.declared.command.Change.TheVariants.{After, Over}
 use Rattle.rbac_cli.specs.declared.exports.Exports.{Exports}
@@ -66,14 +66,17 @@ IsChangeRefused change first others fault = IsSideRefused first (objects_of firs
     × (fault ≡ behind (length first) own)))
 
 -- the inputs are loaded: for `diff` the first n give the policy before a change, and the others the
--- one after it; otherwise all together give an export, which comes with the log for `unused`
+-- one after it; otherwise all together give an export, which comes with the log for `unused` and `least`
 abbrev pub AreLoaded : Action → List (List ℕ) → List RequestView → Exports → Type 0
 AreLoaded (Diff n change) inputs log (Pair before after) =
     IsSideBefore (take n inputs) before × IsSideAfter change (take n inputs) (drop n inputs) after
 AreLoaded (Unused skip_system) inputs log (Used l requests) =
     IsLoaded inputs l × (requests ≡ log)
+AreLoaded (Least user names name) inputs log (Used l requests) =
+    IsLoaded inputs l × (requests ≡ log)
 AreLoaded (Diff n change) inputs log e = ⊥
 AreLoaded (Unused skip_system) inputs log e = ⊥
+AreLoaded (Least user names name) inputs log e = ⊥
 AreLoaded action inputs log (Single l) = IsLoaded inputs l
 AreLoaded action inputs log e = ⊥
 
@@ -83,12 +86,14 @@ AreInputsRefused (Diff n change) inputs fault =
     IsChangeRefused change (take n inputs) (drop n inputs) fault
 AreInputsRefused action inputs fault = HasFault inputs fault
 
--- what the action is answered over: `diff` over two policies, `unused` over an export and a log,
--- everything else over one export
+-- what the action is answered over: `diff` over two policies, `unused` and `least` over an export
+-- and a log, everything else over one export
 abbrev pub IsForAction : Action → Exports → Type 0
 IsForAction (Diff n change) (Pair before after) = Unit {0}
 IsForAction (Unused skip_system) (Used l log) = Unit {0}
+IsForAction (Least user names name) (Used l log) = Unit {0}
 IsForAction (Diff n change) e = ⊥
 IsForAction (Unused skip_system) e = ⊥
+IsForAction (Least user names name) e = ⊥
 IsForAction action (Single l) = Unit {0}
 IsForAction action e = ⊥

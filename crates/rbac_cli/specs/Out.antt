@@ -12,6 +12,7 @@ use Rattle.rbac_model.specs.Holders.{HolderView}
 use Rattle.rbac_catalogue.specs.declared.entry.Entry.{Entry}
 use Rattle.rbac_universe.specs.Sets.{IsUniverseOf}
 use Rattle.rbac_document.specs.Document.{IsDocument}
+use Rattle.rbac_document.specs.LeastDocument.{least_text}
 use Rattle.rbac_document.specs.Names.{resource_name}
 use Rattle.rbac_lists.specs.Wide.{AreTooMany}
 use Rattle.rbac_text.specs.Rule.{grant_text}
@@ -28,11 +29,13 @@ use Rattle.rbac_paths.specs.PathLines.{path_text}
 use Rattle.rbac_paths.specs.WaysTo.{AreWaysTo, WayView}
 use Rattle.rbac_paths.specs.WayLines.{way_text}
 use Rattle.rbac_diff.specs.Changes.{ChangeView, AreChanges}
+use Rattle.rbac_diff.specs.Requests.{RequestView as LoggedRequest}
 use Rattle.rbac_diff.specs.Lines.{change_text}
 use Rattle.rbac_question.specs.declared.command.Action.{Action}
 use Rattle.rbac_question.specs.declared.command.Action.TheVariants.{CanI, WhoCan, WaysTo}
 use Rattle.rbac_question.specs.declared.command.Action.TheVariants.{Rules, Matrix, Universe, Lint}
 use Rattle.rbac_question.specs.declared.command.Action.TheVariants.{Powers, Paths, Diff, Unused}
+use Rattle.rbac_question.specs.declared.command.Action.TheVariants.{Least}
 use Rattle.rbac_question.specs.declared.command.Question.{Question}
 use Rattle.rbac_question.specs.declared.path_end.PathEnd.{PathEnd}
 use Rattle.rbac_rules.specs.Effective.{RuleView, AreEffective}
@@ -40,8 +43,10 @@ use Rattle.rbac_index.specs.WhoCan.{AreListedHolders}
 use Rattle.rbac_near.specs.Near.{AreNear, RequestView}
 use Rattle.rbac_near.specs.NearLines.{near_line}
 use Rattle.rbac_near.specs.declared.near.Near.{Near}
+use Rattle.rbac_use.specs.LeastRules.{IsLeastOf}
 use Rattle.rbac_use.specs.Unused.{AreUnused}
 use Rattle.rbac_use.specs.UnusedTexts.{unused_line}
+use Rattle.rbac_use.specs.declared.least.Least.{Least as LeastPolicy}
 use Rattle.rbac_use.specs.declared.unused.Unused.{Unused as UnusedPart}
 use Rattle.rbac_cli.specs.HolderLines.{AreHolderLines, joined_lines}
 use Rattle.rbac_cli.specs.declared.exports.Exports.{Exports}
@@ -178,6 +183,11 @@ abbrev pub unused_status : List UnusedPart → Status
 unused_status [] = Zero
 unused_status (x ∷ xs) = One
 
+-- the document of the least policy of the user, by these logged requests
+abbrev pub IsLeastText : PolicyView → List LoggedRequest → Text → Bool → Text → Text → Type 0
+IsLeastText p log user names name text =
+    (least : LeastPolicy) × IsLeastOf p log user names least × (text ≡ least_text name user least)
+
 -- the text and the status that an action means over what was loaded: `can-i` answers `yes` and 0,
 -- or `no` and 1 (kubectl auth can-i); `who-can` answers a line for each holder, and 0, or with
 -- `--indirect` a line for each node from which the given steps, or none, lead to one that allows
@@ -190,7 +200,8 @@ unused_status (x ∷ xs) = One
 -- `--to` a line for each step of the one path to TO, and 0, or nothing and 1 if no path leads there
 -- (own); `diff` a line for each change from the first policy to the second, and 1 if there is one,
 -- otherwise 0 (own); `unused` a line for each part of a binding that no request of the log used, and
--- 1 if there is one, otherwise 0 (own)
+-- 1 if there is one, otherwise 0 (own); `least` the document of the least policy of the user by the
+-- requests of the log, and 0 (own)
 abbrev pub Answers : Exports → Action → List ℕ → Status → Type 0
 Answers (Single l) (CanI who options q) text status =
     (IsAllowed l.policy.held l.catalogue.entries who q
@@ -242,4 +253,6 @@ Answers (Pair before after) (Diff n change) text status =
 Answers (Used l log) (Unused skip_system) text status =
     (xs : List UnusedPart) × AreUnused l.policy log skip_system xs
     × (text ≡ unused_text l.policy xs) × (status ≡ unused_status xs)
+Answers (Used l log) (Least user names name) text status =
+    IsLeastText l.policy log user names name text × (status ≡ Zero)
 Answers e action text status = ⊥

@@ -1,13 +1,14 @@
 //! The answer of each action.
 
-ghost use Rattle.std.specs.Prelude.{◌≡◌, Bool, false};
-ghost use Rattle.rbac_question.specs.declared.command.Action.TheVariants.{Unused};
+ghost use Rattle.std.specs.Prelude.{◌≡◌, false};
 ghost use Rattle.rbac_cli.specs.Exports.{IsForAction};
 ghost use Rattle.rbac_cli.specs.Printing.{EndsPrinting};
+ghost use Rattle.rbac_cli.specs.declared.exports.Exports.TheVariants.{Used};
 
 use crate::can_i::verdict_of;
 use crate::diff::print_changes;
 use crate::exports::Exports;
+use crate::least::print_least;
 use crate::lint::print_findings;
 use crate::matrix::print_matrix;
 use crate::outcome::Status;
@@ -20,7 +21,9 @@ use crate::universe::print_universe;
 use crate::unused::print_unused;
 use crate::ways::print_ways;
 use crate::who_can::print_holders;
+use rbac_manifest::Export;
 use rbac_question::Action;
+use rbac_use::Log;
 use std::alloc::Global;
 use std::io::Write;
 
@@ -39,7 +42,7 @@ pub(crate) fn print_answer<W: Write + Drop>(
         Exports::Single(export) => export,
         Exports::Pair(before, after) => return print_changes(alloc, before, after, output),
         Exports::Used(export, lent) => {
-            return print_unused(alloc, export, lent.log(), skips_system(action), output);
+            return print_use(alloc, export, lent.log(), action, output);
         }
     };
     match action {
@@ -76,16 +79,37 @@ pub(crate) fn print_answer<W: Write + Drop>(
             steps,
             to,
         } => print_paths(alloc, export, principal, steps.as_slice(), to, output),
-        Action::Diff { .. } | Action::Unused { .. } => unreachable!(),
+        Action::Diff { .. } | Action::Unused { .. } | Action::Least { .. } => unreachable!(),
     }
 }
 
-// Whether `unused` leaves out the bindings whose names begin with `system:`.
-fn skips_system(action: &Action) -> bool
-    ensures { (skip_system : Bool) → action.now ≡ Unused skip_system → result ≡ skip_system }
+// Prints the answer of an action over an export and the requests of the logs.
+fn print_use<W: Write + Drop>(
+    alloc: Global,
+    export: &Export,
+    log: &Log,
+    action: &Action,
+    output: &mut Output<'_, W>,
+) -> Result<Status, Stop>
+    requires over { IsForAction action.now (Used export.now log.now) }
+    requires works { output.old.sink.now.has_failed ≡ false }
+    ensures { EndsPrinting W.contents output.old output.new (Used export.now log.now) action.now
+        result }
 {
     match action {
-        Action::Unused { skip_system } => *skip_system,
-        _ => false,
+        Action::Unused { skip_system } => print_unused(alloc, export, log, *skip_system, output),
+        Action::Least { user, names, name } => {
+            print_least(alloc, export, log, user, *names, name, output)
+        }
+        Action::CanI { .. }
+        | Action::WhoCan { .. }
+        | Action::WaysTo { .. }
+        | Action::Rules { .. }
+        | Action::Matrix { .. }
+        | Action::Universe
+        | Action::Lint { .. }
+        | Action::Powers
+        | Action::Paths { .. }
+        | Action::Diff { .. } => unreachable!(),
     }
 }

@@ -68,7 +68,8 @@ impl Drop for Exports<'_> {
 }
 
 /// Loads the inputs of an action: for `diff` the side before the change and then the side after it;
-/// otherwise all inputs together. Only `unused` is answered over the requests of the log, too.
+/// otherwise all inputs together. Only `unused` and `least` are answered over the requests of the
+/// log, too.
 pub(crate) fn exports_from<'l>(
     alloc: Global,
     action: &Action,
@@ -81,6 +82,7 @@ pub(crate) fn exports_from<'l>(
     match action {
         Action::Diff { before, change } => pair_from(alloc, *before, *change, inputs),
         Action::Unused { .. } => Ok(Exports::Used(export_from(alloc, inputs)?, LentLog { log })),
+        Action::Least { .. } => Ok(Exports::Used(export_from(alloc, inputs)?, LentLog { log })),
         _ => Ok(Exports::Single(export_from(alloc, inputs)?)),
     }
 }

@@ -41,7 +41,7 @@ use rbac_paths::{
     ways_are_one,
 };
 use rbac_universe::universes_have_no_fault;
-use rbac_use::unused_lines_are_one;
+use rbac_use::{least_is_one, unused_lines_are_one};
 use std::io::Write;
 
 /// Over what was loaded, an action means at most one text and one status: whoever runs a command
@@ -56,6 +56,7 @@ pub fn answers_are_one()
     one_path_is_one();
     ways_are_one();
     unused_lines_are_one();
+    least_is_one();
 }
 
 /// Two runs of one command over the same inputs, and over logs with the same requests, end alike,
@@ -82,6 +83,7 @@ pub fn runs_are_one<V: Write, W: Write>()
     one_path_is_one();
     ways_are_one();
     unused_lines_are_one();
+    least_is_one();
 }
 
 /// No line of a `diff` begins with `+` exactly if the side before allows every request that the

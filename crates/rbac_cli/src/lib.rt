@@ -8,6 +8,7 @@ mod can_i;
 mod diff;
 mod exports;
 mod laws;
+mod least;
 mod lines;
 mod lint;
 mod matrix;

@@ -34,7 +34,8 @@ use std::io::Write;
 /// the objects that the change takes away, and then those that it puts over.
 ///
 /// For `unused` it writes exactly one line for each part of a binding that no request of the log
-/// used. The log has the requests of the command's logs; no other command depends on it.
+/// used. For `least` it writes the document of the least policy of the user by the log. The log has
+/// the requests of the command's logs; no other command depends on it.
 ///
 /// Refuses inputs that [`load`] refuses, for a matrix those whose lists make no universe, and for
 /// `universe` those whose lists have more resources than a universe may have targets; nothing is

@@ -1,10 +1,10 @@
 use Rattle.std.proofs.Common.{sym}
 use Rattle.std.proofs.lemmas.Result.{err_from_is_err_and}
 use Rattle.rbac_question.specs.declared.command.Action.TheVariants.{CanI}
-use Rattle.rbac_cli.specs.declared.exports.Exports.TheVariants.{Single, Pair, Used}
+use Rattle.rbac_cli.specs.declared.exports.Exports.TheVariants.{Single, Pair}
 use Rattle.rbac_question.specs.declared.command.Action.{Action}
 use Rattle.rbac_cli.specs.Printing.{EndsPrinting}
-use Rattle.rbac_cli.proofs.Loads.{of_diff, of_unused}
+use Rattle.rbac_cli.proofs.Loads.{of_diff}
 use Rattle.rbac_cli.proofs.Stops.{failed_by, stops_within}
 use Rattle.rbac_cli.proofs.answer.print_answer.Goals as goal
 
@@ -46,10 +46,7 @@ pub returns-in-WaysTo : goal.returns-in-WaysTo
 returns-in-WaysTo g c = rw (c.in-Single.is, c.in-WaysTo.is) (c.print_ways.ensures c.in-WaysTo.steps (sym c.as_slice-in-WaysTo.ensures.value))
 
 pub returns-in-Used : goal.returns-in-Used
-returns-in-Used g c =
-    let over = rw c.in-Used.is at c.requires.over in
-    let export = c.in-Used.export in
-    let log = c.in-Used.lent in
-    let printed = rw c.log.ensures at c.print_unused.ensures in
-    rw c.in-Used.is (of_unused (λ (a : Action). EndsPrinting g.W.Write.contents c.args.output.now c.print_unused.new.output (Used export log) a c.print_unused.result)
-    c.args.action.now export log c.skips_system.result over c.skips_system.ensures printed)
+returns-in-Used g c = rw c.in-Used.is (rw c.log.ensures at c.print_use.ensures)
+
+pub print_use-requires-clause-over : goal.print_use-requires-clause-over
+print_use-requires-clause-over g c = rw c.log.ensures (rw c.in-Used.is at c.requires.over)
