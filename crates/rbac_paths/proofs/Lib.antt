@@ -47,6 +47,7 @@ pub mod RoleRules
 pub mod RowsOfStep
 pub mod RuleTakeovers
 pub mod RuleWords
+pub mod SameOthers
 pub mod Scopes
 pub mod SharedWords
 pub mod Taken

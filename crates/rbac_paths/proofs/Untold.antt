@@ -20,7 +20,7 @@ either f g (inl a) = inl (f a)
 either f g (inr b) = inr (g b)
 
 -- a node that is left out is still left out if more is taken over by `bind` and `escalate`
-untold_too : (A C : Option Text → Type 0) (B D : NodeView → Type 0) → ((scope : Option Text) → A scope → C scope) → ((y : NodeView) → IsNobody y → B y → D y) → (y : NodeView) → IsUntoldBy A B y → IsUntoldBy C D y
+pub untold_too : (A C : Option Text → Type 0) (B D : NodeView → Type 0) → ((scope : Option Text) → A scope → C scope) → ((y : NodeView) → IsNobody y → B y → D y) → (y : NodeView) → IsUntoldBy A B y → IsUntoldBy C D y
 untold_too A C B D f g (Somebody who) u = u
 untold_too A C B D f g (EverythingIn None) u = u
 untold_too A C B D f g (EverythingIn (Some namespace)) u = f None u

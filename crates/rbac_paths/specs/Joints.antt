@@ -209,6 +209,14 @@ abbrev pub DecideOn : PolicyView → List Step → NodeView → List HoldingView
 DecideOn p steps x hs IsAbout = (step : Step) (y : NodeView) → Contains steps step → IsAbout y
     → HoldingsTake step hs y ↔ CanTakeOver p x step y
 
+-- of the first nodes is known which holdings decide what other nodes each takes over, and the places
+-- of those
+abbrev pub AreKnown : PolicyView → List Step → List NodeView → List (List HoldingView) → List (List ℕ)
+    → Type 0
+AreKnown p steps ys overs also = (k : ℕ) (y : NodeView) → k < length overs → slice_get ys k ≡ Some y
+    → DecideOn p steps y (slice_index_or overs k []) IsNobody
+    × AreOthers p steps y ys (slice_index_or also k [])
+
 -- the numbers of the taking grants and the rules of the node at a place
 pub record DecidingView : Type 0 where
   pub place : ℕ

@@ -19,8 +19,9 @@ use crate::deciding::{given_by, places_of_lists, taking_grants};
 use crate::holding::{Holding, holdings_of, rule_of_all};
 use crate::listed::listed_at;
 use crate::node::Node;
-use crate::other_nodes::{Others, others_taken, over_others, over_others_among};
+use crate::other_nodes::{Others, over_others, over_others_among};
 use crate::rule_takeovers::RuleTakeovers;
+use crate::same_others::others_of;
 use crate::told::{StepRows, rows_of_steps};
 use crate::words::{taken_words, words_of_grants, words_of_whom};
 use rbac_model::Policy;
@@ -29,6 +30,7 @@ use rbac_subjects::SubjectIndex;
 use rbac_terms::{Items, Rule, Words};
 use rbac_ways::{Graph, listed_in};
 use std::alloc::{AllocError, Global};
+use std::collections::BTreeMap;
 
 /// The graph of some nodes, and the grants that decide what each node takes over.
 pub(crate) struct NodeGraph {
@@ -119,14 +121,22 @@ fn joined<'p>(
     let few = few.as_slice();
     let mut lists = words_of_bindings(alloc, policy, takeovers, grants)?;
     let mut also = Vec::with_capacity(alloc, nodes.len())?;
+    let mut overs = Vec::with_capacity(alloc, nodes.len())?;
+    let mut last = BTreeMap::new(alloc);
     for (place, node) in nodes.iter().enumerate() {
         let own = listed_at(places, place);
         let holdings = rules_held(alloc, policy, index, &all, *node)?;
         let held = holdings.as_slice();
         lists.push(words_held(alloc, steps, held, *node)?)?;
         let over = few_taken(alloc, policy, steps, few, held, own, *node)?;
-        let over = over.as_slice();
-        also.push(others_taken(alloc, steps, writing, over, *node, nodes, &others)?)?;
+        let few_over = over.as_slice();
+        let known = overs.as_slice();
+        let before = also.as_slice();
+        let taken = others_of(
+            alloc, steps, writing, few_over, *node, nodes, &others, known, before, &mut last,
+        )?;
+        also.push(taken)?;
+        overs.push(Items::from_vec(over))?;
     }
     let had_by = words_of_nodes(alloc, nodes)?;
     let lists = lists.as_slice();

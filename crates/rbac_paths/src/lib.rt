@@ -26,6 +26,7 @@ mod principals;
 mod reason;
 mod rows;
 mod rule_takeovers;
+mod same_others;
 mod searching;
 mod seeking;
 mod table;

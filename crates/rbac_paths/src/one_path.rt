@@ -94,7 +94,7 @@ fn is_in(node: Node<'_>, scope: Option<&Word>) -> bool
 }
 
 // Whether both are the same namespace, or both the whole cluster.
-fn is_same_scope(scope: Option<&Word>, other: Option<&Word>) -> bool
+pub(crate) fn is_same_scope(scope: Option<&Word>, other: Option<&Word>) -> bool
     ensures { IsTrue result ↔ (option_copied scope.entry ≡ option_copied other.entry) }
 {
     match (scope, other) {

@@ -1,14 +1,14 @@
-use Rattle.std.proofs.Common.{◌≡◌, ◌+◌, ◌++◌, ◌∙◌, ◌∷◌, [], Contains, List, Some, ap, append-nil, append_assoc, arith, get_or, length, map, refl, slice_get, subst, sym, ℕ}
-use Rattle.std.proofs.lemmas.List.{length-map}
+use Rattle.std.proofs.Common.{◌≡◌, ◌+◌, ◌<◌, ◌++◌, ◌∙◌, ◌∷◌, [], Contains, List, Some, ap, append-nil, append_assoc, arith, get_or, length, map, refl, slice_get, subst, sym, ℕ}
+use Rattle.std.proofs.lemmas.List.{length-map, length_push}
 use Rattle.std.proofs.lemmas.Option.{same_Some, slice_get_within}
 use Rattle.rbac_terms.specs.Text.{Text}
 use Rattle.rbac_ways.specs.Joining.{IsListedIn}
 use Rattle.rbac_paths.specs.Deciding.{ArePlaces, ArePlacesOf, IsAnyNode}
 use Rattle.rbac_paths.specs.Having.{HoldingView}
-use Rattle.rbac_paths.specs.Joints.{AreFewGrants, AreJoints, AreOthers, DecideOn, IsNobody, TakesByWords}
+use Rattle.rbac_paths.specs.Joints.{AreFewGrants, AreJoints, AreKnown, AreOthers, DecideOn, IsNobody, TakesByWords}
 use Rattle.rbac_paths.specs.Nodes.{NodeView, node_of}
 use Rattle.rbac_paths.specs.Told.{HasItsRole}
-use Rattle.rbac_paths.proofs.GraphOf.{graph_is, joints_more, joints_none, ok_both}
+use Rattle.rbac_paths.proofs.GraphOf.{graph_is, joints_more, joints_none, ok_both, pushed}
 use Rattle.rbac_paths.proofs.ListPlaces.{each_takes}
 use Rattle.rbac_paths.proofs.Mapped.{mapped_at, mapped_has}
 use Rattle.rbac_paths.proofs.graph.joined.Goals as goal
@@ -30,7 +30,7 @@ few_taken-requires-clause-few c =
 
 pub loop-place-init : goal.loop-place-init
 loop-place-init c =
-    ([], sym (append-nil c.in_ok-lists.lists.items), joints_none c.args.policy.now c.args.steps.now (map node_of c.args.nodes.now) [] c.in_ok-also.also.items refl c.in_ok-also.ensures.items)
+    ([], sym (append-nil c.in_ok-lists.lists.items), joints_none c.args.policy.now c.args.steps.now (map node_of c.args.nodes.now) [] c.in_ok-also.also.items refl c.in_ok-also.ensures.items, ap length c.in_ok-overs.ensures.items, λ k y low at. absurd (omega (arith, low)))
 
 pub loop-place-preserved : goal.loop-place-preserved
 loop-place-preserved c =
@@ -46,17 +46,26 @@ loop-place-preserved c =
     let grants = c.args.grants.now in
     let few = subst (λ (fs : List (List ℕ)). AreFewGrants p steps grants fs) (sym c.as_slice-few.ensures.value) (c.in_ok-few.ensures steps c.requires.takeovers) in
     let own = subst (λ (ps : List ℕ). ArePlacesOf p grants (length grants + place) x ps) (sym c.listed_at-own.ensures) (c.requires.places.each place x c.loop-place-test.true at) in
-    let over = subst (λ (h : List HoldingView). DecideOn p steps x h IsNobody) (sym c.as_slice-over.ensures.value) (c.in_ok-over.ensures grants (length grants + place) (omega arith) c.requires.grants few own held) in
+    let decide = c.in_ok-over.ensures grants (length grants + place) (omega arith) c.requires.grants few own held in
+    let over = subst (λ (h : List HoldingView). DecideOn p steps x h IsNobody) (sym c.as_slice-few_over.ensures.value) decide in
     let bound = c.in_ok-lists.lists.items in
     let before = c.loop-place.invariant.0 in
     let ws = c.in_ok-words_held.field-0 in
-    let js = c.in_ok-others_taken.field-0 in
-    rw c.in_ok-push-2.ensures.items (
+    let js = c.in_ok-taken.taken in
+    let overs = c.loop-place.overs.items in
+    let joints = c.loop-place.invariant.2 in
+    let len = c.loop-place.invariant.3 in
+    let decided = c.loop-place.invariant.4 in
+    let known : AreKnown p steps ys c.as_slice-known.result.now c.as_slice-before.result.now = rw (c.as_slice-known.ensures.value, c.as_slice-before.ensures.value)
+    (λ k y low there. (let less : k < place = omega (arith, low, len) in (decided k y less there, joints.others k y less there))) in
+    rw (c.in_ok-push-2.ensures.items, c.in_ok-push-3.ensures.items, c.from_vec.ensures) (
       before ++ ws ∷ [],
       c.in_ok-push.ensures.items ∙ ap (λ (ls : List (List Text)). ls ++ ws ∷ []) c.loop-place.invariant.1 ∙ append_assoc bound before (ws ∷ []),
-      joints_more p steps ys place before c.loop-place.also.items ws js c.loop-place.invariant.2
+      joints_more p steps ys place before c.loop-place.also.items ws js joints
           (λ y there nobody. subst (λ (z : NodeView). TakesByWords p steps z (λ w. Contains ws w)) (is y there) (c.in_ok-words_held.ensures p (held (subst (λ (z : NodeView). IsNobody z) (sym (is y there)) nobody))))
-          (λ y there. subst (λ (z : NodeView). AreOthers p steps z ys js) (is y there) (c.in_ok-others_taken.ensures p over)),
+          (λ y there. subst (λ (z : NodeView). AreOthers p steps z ys js) (is y there) (c.in_ok-taken.ensures p known over)),
+      length_push overs c.in_ok-over.over.items ∙ ap (λ (n : ℕ). n + 1) len,
+      pushed (λ k y hs. DecideOn p steps y hs IsNobody) ys [] overs c.in_ok-over.over.items place len decided (λ y there. subst (λ (z : NodeView). DecideOn p steps z c.in_ok-over.over.items IsNobody) (is y there) decide),
     )
 
 pub returns : goal.returns

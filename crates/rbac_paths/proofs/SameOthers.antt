@@ -1,0 +1,47 @@
+-- Nodes that take over the same other nodes, because the same holdings decide it.
+use Rattle.std.proofs.Common.{◌≡◌, ◌∙◌, ℕ, List, Contains, ap}
+use Rattle.rbac_terms.specs.Text.{Text}
+use Rattle.rbac_terms.specs.declared.matching.Rule.{Rule}
+use Rattle.rbac_model.specs.Policies.{PolicyView}
+use Rattle.rbac_paths.specs.Having.{HoldingView}
+use Rattle.rbac_paths.specs.Joints.{AreOthers, DecideOn, IsNobody}
+use Rattle.rbac_paths.specs.Nodes.{NodeView, EverythingIn}
+use Rattle.rbac_paths.specs.Taking.{CanTakeOver}
+use Rattle.rbac_paths.specs.TakingOver.{BindsNode, HasAll, MayGoOn, TakesOver}
+use Rattle.rbac_steps.specs.declared.steps.Step.{Step}
+use Rattle.rbac_steps.specs.declared.steps.Step.TheVariants.{Bind}
+use Rattle.rbac_paths.proofs.Untold.{untold_too}
+
+-- rules of the same five lists are the same
+pub same_lists : (a b : Rule) → a.verbs ≡ b.verbs → a.urls ≡ b.urls → a.groups ≡ b.groups → a.resources ≡ b.resources → a.resource_names ≡ b.resource_names → a ≡ b
+same_lists a b verbs urls groups resources names =
+    let with_verbs : List Text → Rule = λ l. record { verbs = l; groups = a.groups; resources = a.resources; resource_names = a.resource_names; urls = a.urls } in
+    let with_groups : List Text → Rule = λ l. record { verbs = b.verbs; groups = l; resources = a.resources; resource_names = a.resource_names; urls = a.urls } in
+    let with_resources : List Text → Rule = λ l. record { verbs = b.verbs; groups = b.groups; resources = l; resource_names = a.resource_names; urls = a.urls } in
+    let with_names : List Text → Rule = λ l. record { verbs = b.verbs; groups = b.groups; resources = b.resources; resource_names = l; urls = a.urls } in
+    let with_urls : List Text → Rule = λ l. record { verbs = b.verbs; groups = b.groups; resources = b.resources; resource_names = b.resource_names; urls = l } in
+    ap with_verbs verbs ∙ ap with_groups groups ∙ ap with_resources resources ∙ ap with_names names ∙ ap with_urls urls
+
+module _ (p : PolicyView) (steps : List Step) (few : List HoldingView) where
+  can_too : (x z : NodeView) → DecideOn p steps x few IsNobody → DecideOn p steps z few IsNobody → (step : Step) (y : NodeView) → Contains steps step → IsNobody y → CanTakeOver p x step y → CanTakeOver p z step y
+  can_too x z decide too step y among nobody can = (too step y among nobody).0 ((decide step y among nobody).1 can)
+
+  takes_too : (x z : NodeView) → DecideOn p steps x few IsNobody → DecideOn p steps z few IsNobody → (y : NodeView) → MayGoOn z y → IsNobody y → TakesOver p steps x y → TakesOver p steps z y
+  takes_too x z decide too y on nobody t = (
+    t.0,
+    record {
+      goes_on = on;
+      among = t.1.among;
+      can = can_too x z decide too t.0 y t.1.among nobody t.1.can;
+      told = λ writes untold. t.1.told writes (untold_too (HasAll p steps z) (HasAll p steps x) (BindsNode p steps z) (BindsNode p steps x)
+          (λ scope w. (w.0, w.1, w.2, can_too z x too decide w.0 (EverythingIn scope) w.2 tt w.3))
+          (λ v other w. (w.0, can_too z x too decide Bind v w.0 other w.1)) y untold);
+    },
+  )
+
+  pub same_others : (x z : NodeView) → DecideOn p steps x few IsNobody → DecideOn p steps z few IsNobody → ((y : NodeView) → MayGoOn x y) → ((y : NodeView) → MayGoOn z y)
+      → (ys : List NodeView) (js : List ℕ) → AreOthers p steps x ys js → AreOthers p steps z ys js
+  same_others x z decide too on goes ys js of j = (
+    λ c. (let o = (of j).0 c in (o.0, o.1, o.2, takes_too x z decide too o.0 (goes o.0) o.2 o.3)),
+    λ o. (of j).1 (o.0, o.1, o.2, takes_too z x too decide o.0 (on o.0) o.2 o.3),
+  )
