@@ -34,6 +34,9 @@ function __rbacaudit_options
         case unused
             echo '^(--(log))$'
             string split ' ' 'log= skip-system h/help'
+        case least
+            echo '^(--(log|name))$'
+            string split ' ' 'log= names name= h/help'
         case '*'
             echo '(?!)'
             string split ' ' 'h/help V/version'
@@ -89,7 +92,9 @@ complete -c rbacaudit -n '__rbacaudit_words -eq 0 ""' -a powers -d 'List who can
 complete -c rbacaudit -n '__rbacaudit_words -eq 0 ""' -a paths -d 'List whom and what WHO can take over, step by step'
 complete -c rbacaudit -n '__rbacaudit_words -eq 0 ""' -a diff -d 'List the permissions that a change gives or takes away'
 complete -c rbacaudit -n '__rbacaudit_words -eq 0 ""' -a unused -d 'List what no request of audit logs used, so that it can go'
-complete -c rbacaudit -n '__rbacaudit_lacks help "" can-i who-can rules matrix universe lint powers paths diff unused' -s h -l help -d 'Print help'
+complete -c rbacaudit -n '__rbacaudit_words -eq 0 ""' -a least -d 'Print the least roles and bindings that let WHO do what WHO did by audit logs'
+complete -c rbacaudit -n '__rbacaudit_lacks help "" can-i who-can rules matrix universe lint powers paths diff unused least' -s h -l help \
+    -d 'Print help'
 complete -c rbacaudit -n '__rbacaudit_lacks version ""' -s V -l version -d 'Print version'
 complete -c rbacaudit -n '__rbacaudit_lacks as can-i' -l as -x -d 'User to check'
 complete -c rbacaudit -n '__rbacaudit_lacks groups can-i rules paths' -l groups -x \
@@ -133,12 +138,15 @@ complete -c rbacaudit -n '__rbacaudit_lacks without diff' -l without -x -k -a '(
     -d 'JSON of objects that the change deletes from those of --before'
 complete -c rbacaudit -n '__rbacaudit_lacks with diff' -l with -x -k -a '(__fish_complete_suffix .json)' \
     -d 'JSON of objects that the change adds or replaces'
-complete -c rbacaudit -n '__rbacaudit_words -ge 0 unused' -l log -r -F -d 'Audit log of the API server, JSON lines'
+complete -c rbacaudit -n '__rbacaudit_words -ge 0 unused least' -l log -r -F -d 'Audit log of the API server, JSON lines'
 complete -c rbacaudit -n '__rbacaudit_lacks skip-system unused' -l skip-system -d 'Leave out bindings whose names begin with system:'
+complete -c rbacaudit -n '__rbacaudit_lacks names least' -l names \
+    -d 'Allow only the object names that WHO asked for (default: rules allow any name)'
+complete -c rbacaudit -n '__rbacaudit_lacks name least' -l name -x -d 'Name of the roles and bindings (default: least)'
 complete -c rbacaudit -n '__rbacaudit_words -eq 0 can-i who-can' -k -d 'Verb to check' \
     -a 'get list watch create update patch delete deletecollection use bind escalate impersonate'
 complete -c rbacaudit -n '__rbacaudit_words -ge 2 can-i who-can' -k -a '(__fish_complete_suffix .json)'
-complete -c rbacaudit -n '__rbacaudit_words -ge 1 rules paths' -k -a '(__fish_complete_suffix .json)'
+complete -c rbacaudit -n '__rbacaudit_words -ge 1 rules paths least' -k -a '(__fish_complete_suffix .json)'
 complete -c rbacaudit -n '__rbacaudit_words -ge 0 matrix universe lint powers unused' -k -a '(__fish_complete_suffix .json)'
 complete -c rbacaudit -n '__rbacaudit_has before diff' -k -a '(__fish_complete_suffix .json)'
 complete -c rbacaudit -n '__rbacaudit_has after diff' -k -a '(__fish_complete_suffix .json)'

@@ -26,6 +26,7 @@ MOST_TARGETS = 1_000_000
 TARGETS = ('a universe has at most 1,000,000 targets: resources times names, and URLs; a FILE that is a Universe document with "resources" or "names" '
            'makes it smaller')
 WHO = 'WHO is u:NAME for a user, or g:NAME for a group: '
+WHO_USER = 'WHO is u:NAME for a user: '
 
 
 def find_culprit(path: str, item: int) -> str:
@@ -145,7 +146,7 @@ def wide_rules(path: str) -> Iterator[str]:
 def advise_on_words(session: Session, question: Question, said: str) -> None:
     """Says what to do about words that rbacaudit has refused, by what it said."""
     first, second = (*question.places, '', '')[:2]
-    advice = {'U2': of_empty(question, first, second), 'U5': of_who(first), 'U6': of_codes(question.codes),
+    advice = {'U2': of_empty(question, first, second), 'U5': (of_user if question.command == 'least' else of_who)(first), 'U6': of_codes(question.codes),
               'U4': "--after takes the TOKEN of a matrix's last line, next TOKEN: copy all of it"}.get(said[11:13])
     if advice:
         session.report(advice)
@@ -176,3 +177,10 @@ def of_who(who: str) -> str:
     if who.startswith('g:'):
         return 'a group has no groups: ask about %s without --groups and --group, or about a user, u:NAME' % who
     return '%swrite u:%s, or g:%s' % (WHO, who, who)
+
+
+def of_user(who: str) -> str:
+    """The same where WHO is a user."""
+    if who in ('', 'u:'):
+        return WHO_USER + 'a name is missing'
+    return WHO_USER + ('a log has the requests of users, whatever their groups are' if who.startswith('g:') else 'write u:' + who)

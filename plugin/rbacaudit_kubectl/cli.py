@@ -17,7 +17,7 @@ from .terminal import Ended, Refused, print_text
 
 # The module of each command, which nothing else waits for; the others are questions.
 MODULES = {'export': 'export', 'diff': 'changes', 'read': 'manifests', 'universe': 'listed', 'page': 'page_command', 'access': 'access',
-           'report': 'report', 'unused': 'unused'}
+           'report': 'report', 'unused': 'unused', 'least': 'least'}
 
 
 def run_words(session: Session, words: list[str]) -> int:

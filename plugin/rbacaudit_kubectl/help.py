@@ -7,14 +7,14 @@ from collections.abc import Iterator
 from itertools import groupby
 
 from .fields import SHAPES
-from .options import COMMANDS, OF_DIFF, OF_EXPORT, OF_PAGE, OF_READ, OF_REPORT, OF_UNUSED, OWN, SHOWN, Option
+from .options import COMMANDS, OF_DIFF, OF_EXPORT, OF_LOGS, OF_PAGE, OF_READ, OF_REPORT, OWN, SHOWN, Option
 
 MAIN = '''\
 Answer questions about the RBAC of a cluster with rbacaudit. kubectl reads the cluster, and nothing in it is changed.
 
 {commands}
 
-The commands up to lint, and unused, take rbacaudit's options (see can-i --help), and these:
+The commands up to lint, unused and least take rbacaudit's options (see can-i --help), and these, but least no -o:
 {options}
 
 Without --export, each question reads the cluster anew. For several questions, and for pages of a matrix, export first:
@@ -23,8 +23,7 @@ Without --export, each question reads the cluster anew. For several questions, a
 
 PATH is a file or folder with manifests, a folder with a kustomization, or - for standard input. lint PATH reads no cluster; it knows Kubernetes' own
 roles without --no-defaults. Without -n or -A, can-i and who-can ask about the namespace of the context, or of the context that the export was made
-with; rules and access list all bindings. The plugin says where -n doesn't count. For bind of cluster roles, and for use, it asks in the namespace, as
-a server does.
+with; rules and access list all bindings.
 
 FILEs are read before the files of the export: if both have an object, the export's counts. The exit status is rbacaudit's: 2 is an error. If a part
 that the command reads is missing, the status is 2, unless --partial is given. Standard error lists which type, verb, namespace, user or group isn't
@@ -169,6 +168,27 @@ A line of a log that is no event refuses the answer, and standard error has its 
 other options mean what kubectl rbacaudit --help says, and rbacaudit unused --help lists the fields. Exit status: 0 all is used; 1 something isn't; 2
 an error.
 '''
+LEAST = '''\
+Print the roles and bindings that let a user do what it did by an audit log, as JSON for kubectl apply.
+
+  kubectl rbacaudit least --log LOG [--log LOG].. [--names] [--name NAME] WHO [FILE]..
+
+{options}
+  --names        keep the object names that were asked for; without it, a rule is for any object of its types
+  --name NAME    the name of each role and binding (default: least)
+
+WHO is u:NAME for a user, such as u:system:serviceaccount:shop:ci. What counts is what the logs have of this user, in whatever groups, and what the
+roles of the export allow. In each namespace a Role and a RoleBinding allow it, and for the whole cluster and URLs a ClusterRole and a
+ClusterRoleBinding. Without --names they may allow more than the roles do now, where these are for some object names alone. So look at what would be
+gained and lost, before anything is applied:
+  kubectl rbacaudit least --export prod --log audit.log --name ci u:system:serviceaccount:shop:ci > least.json
+  kubectl rbacaudit diff --export prod --without old/ --with least.json
+  kubectl apply -f least.json
+
+In old/ are the bindings that the user has now. The logs are those of kubectl rbacaudit unused --help, and they tell only what was asked while they
+were written: what is needed once a year would be lost. A request with a * for a verb, a type or an API group isn't written, since a rule would allow
+all. The other options mean what kubectl rbacaudit --help says. Exit status: 0 the List is written, which is empty if nothing is needed; 2 an error.
+'''
 REPORT = '''\
 Write one document about the export, for an auditor.
 
@@ -223,7 +243,8 @@ LINES = (('can-i', 0, 'yes or no; %s'), ('can-i --why-not', 1, '%s'), ('who-can'
          ('unused', 13, '%s'))
 # The text of a command, its options, and the column of what they do.
 TEXTS = {'': (MAIN, OWN + SHOWN, 21), 'export': (EXPORT, OF_EXPORT, 20), 'diff': (DIFF, OF_DIFF, 19), 'read': (READ, OF_READ, 11),
-         'access': (ACCESS, (), 0), 'unused': (UNUSED, OF_UNUSED, 17), 'report': (REPORT, OF_REPORT, 20), 'page': (PAGE, OF_PAGE, 17)}
+         'access': (ACCESS, (), 0), 'unused': (UNUSED, OF_LOGS, 17), 'least': (LEAST, OF_LOGS, 17), 'report': (REPORT, OF_REPORT, 20),
+         'page': (PAGE, OF_PAGE, 17)}
 
 
 def described(options: tuple[Option, ...], column: int) -> Iterator[str]:

@@ -46,8 +46,8 @@ OF_DIFF = (
            'among them, which are ways to take over somebody else, and a total'),
     Option('--fail-on', 'WHAT', 'fail_on', 'end with status 1 for changes (default), only for gains, or only for powers that are gained'),
     Option('--kustomize', '', 'kustomize', 'with --fail-on: a folder with a kustomization is meant to be rendered'), BARE)
-OF_UNUSED = (Option('--log', 'LOG', 'logs', 'an audit log of the API server: a file, which may be one of gzip, or - for standard input; it may '
-                    'be given more than once', True),)
+OF_LOGS = (Option('--log', 'LOG', 'logs', 'an audit log of the API server: a file, which may be one of gzip, or - for standard input; it may '
+                  'be given more than once', True),)
 OF_READ = (Option('-n,--namespace', 'NS', 'namespace', 'put the roles and bindings that have no namespace into NS'),)
 OF_PAGE = (
     Option('-n,--namespace', 'NS', 'namespace', 'the page of one namespace: its rows, and those of the whole cluster'),
@@ -67,7 +67,7 @@ PASSED = {option.long: option for option in (
     Option('-q,--quiet', '', 'quiet'), Option('--why', '', 'why'), Option('--why-not', '', 'why_not'), Option('--anywhere', '', 'anywhere'),
     Option('--any-name'), Option('--every'), Option('--indirect', '', 'indirect'), Option('--steps', 'STEPS'), Option('--to', 'TO'),
     Option('--once', '', 'once'), Option('--after', 'TOKEN'), Option('--limit', 'N'), Option('--only', 'CODES', 'codes'),
-    Option('--skip-system', '', 'skips_system'))}
+    Option('--skip-system', '', 'skips_system'), Option('--names'), Option('--name', 'NAME'))}
 SCOPE = '--namespace --all-namespaces --in-namespace --subresource '
 
 
@@ -100,7 +100,8 @@ COMMANDS: dict[str, Command] = {
     'lint': Command('[PATH]..', 'what looks wrong with roles and bindings: status 1 if any', 'FILE', '--only --skip-system',
                     OWN + SHOWN + (BARE,)),
     'unused': Command('--log LOG [FILE]..', 'which bindings and permissions nobody used, by an audit log', 'FILE', '--skip-system',
-                      OF_UNUSED + OWN + SHOWN),
+                      OF_LOGS + OWN + SHOWN),
+    'least': Command('--log LOG WHO', 'the roles that let u:NAME do what it did, by an audit log', 'WHO FILE', '--names --name', OF_LOGS + OWN),
     'diff': Command('--export OLD --export NEW', 'permissions gained and lost: status 1 if any (diff --help)', own=OF_DIFF + OWN + SHOWN),
     'read': Command('PATH..', 'manifests as JSON, for rbacaudit (read --help)', 'FILE', own=OF_READ),
     'universe': Command('', 'a Universe document to start from, for matrix', own=OWN),

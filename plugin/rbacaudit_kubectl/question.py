@@ -1,4 +1,4 @@
-"""Questions: the words of can-i, who-can, rules, matrix, powers, paths and lint, as rbacaudit reads them."""
+"""Questions: the words of can-i, who-can, rules, matrix, powers, paths, lint, unused and least, as rbacaudit reads them."""
 
 from __future__ import annotations
 
@@ -9,7 +9,7 @@ from .processes import NOTHING, Session
 from .terminal import Ended, Refused, print_text
 
 ROLES = ['cluster.json', 'namespaced.json']
-PARTS = {'rules': ROLES, 'powers': ROLES, 'lint': ROLES, 'diff': ROLES, 'unused': ROLES,
+PARTS = {'rules': ROLES, 'powers': ROLES, 'lint': ROLES, 'diff': ROLES, 'unused': ROLES, 'least': ROLES,
          'paths': [*ROLES, 'accounts.json'], 'report': [*ROLES, 'accounts.json'],
          'matrix': [*ROLES, 'namespaces.json', 'accounts.json', 'api']}
 ACCOUNT = 'system:serviceaccount:'
@@ -32,7 +32,8 @@ class Question:
     def parts(self) -> tuple[list[str], list[str]]:
         """The parts of an export that it reads, and those that only remarks need."""
         needed = PARTS.get(self.command, [*ROLES, 'api']) + ['accounts.json'] * self.indirect
-        wanted = ['namespaces.json'] * bool(self.asked_in) + ['accounts.json'] * self.asker.startswith(ACCOUNT)
+        is_account = self.asker.startswith(ACCOUNT) and self.command != 'least'
+        wanted = ['namespaces.json'] * bool(self.asked_in) + ['accounts.json'] * is_account
         return needed, [part for part in wanted if part not in needed]
 
     @property
@@ -63,7 +64,7 @@ class Question:
             self.groups += [group for group in (text.split(',') if splits else [text]) if group]
 
     def find_target(self) -> None:
-        """What it is about: a type and an object, but for a URL; for rules and paths, the user or the group whose key WHO is."""
+        """What it is about: a type and an object, but for a URL; for rules, paths and least, the user or the group whose key WHO is."""
         first, second = [*self.places, '', ''][:2]
         if self.command in ('can-i', 'who-can'):
             self.verb = first
