@@ -64,6 +64,7 @@ counted python3 tests/why_not.py
 counted python3 tests/diff.py
 counted python3 tests/paths.py
 counted python3 tests/unused.py
+counted python3 tests/least.py
 counted python3 tests/memory.py
 counted python3 tests/fuzz.py 1 2000
 counted python3 tests/calls.py --once

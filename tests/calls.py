@@ -32,7 +32,7 @@ EXPORT = os.path.join(SOURCES, 'export.json')
 SOURCE = 'src', 'specs', 'proofs'
 GROUPS = 'requests', 'growing', 'exports', 'matrix', 'commands', 'examples'
 # Calls may be added; fewer would be a group that isn't made.
-LEAST_CALLS = 181
+LEAST_CALLS = 183
 # The texts of this project's errors, and of the kit's.
 OUT_OF_MEMORY = 'out of memory', 'memory allocation failed'
 NEVER = 10 ** 9

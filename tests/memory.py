@@ -313,7 +313,7 @@ def few_put_over(room):
 
 
 def of_logs(room):
-    return [Case(*made(room)) for made in (memory_logs.few, memory_logs.few_of_two, memory_logs.none)]
+    return [Case(*made(room)) for made in (memory_logs.few, memory_logs.few_of_two, memory_logs.none, memory_logs.needs)]
 
 
 def few_lists():
@@ -602,7 +602,7 @@ def refused_memory(shim, room):
     cases = [(case, False) for case in (*answers(), *examples(), *changes(room), *of_logs(room), *matrices(), *parser_texts(), *faults(room))]
     cases += [(case, True) for case in (long_matrix(), long_bindings(), long_holders(), long_rules(), long_paths(), long_ways(), long_changes(room),
                                         Case(*memory_logs.long(room)))]
-    cases += [(long_lists(), False)]
+    cases += [(long_lists(), False), (Case(*memory_logs.long_needs(room)), False)]
     begins = [*beginnings(shim, [case for case, _ in cases])]
     asked = [(case, must_cut, begin, mode) for (case, must_cut), begin in zip(cases, begins) for mode in (False, True)]
     with concurrent.futures.ThreadPoolExecutor(2) as pool:
@@ -638,8 +638,9 @@ def endless_input(shim):
 def failed_writes(shim, room):
     """Each write in turn: of a long text as it is written in pieces, and of short ones that are taken at once or byte by byte."""
     shorts = few_holders(), few_reasons(), each_binding(), few_rules(), few_paths(), few_ways(), few_changes(room), few_lists(), findings(), odd_names(), \
-        Case(*memory_logs.few(room))
-    longs = (Case(*memory_logs.long(room)), 0), (long_matrix(), 0), (long_matrix(), 10_000), (long_rules(), 0), (long_changes(room), 0), (long_lists(), 10_000)
+        Case(*memory_logs.few(room)), Case(*memory_logs.needs(room))
+    longs = (Case(*memory_logs.long(room)), 0), (long_matrix(), 0), (long_matrix(), 10_000), (long_rules(), 0), (long_changes(room), 0), (long_lists(), 10_000), \
+        (Case(*memory_logs.long_needs(room)), 10_000)
     pieces = [*longs, *itertools.product(shorts, (0, 1))]
     for (case, piece), error in itertools.product(pieces, (errno.ENOSPC, errno.EINTR, 0)):
         # (a short text that is taken at once is never cut)
@@ -718,7 +719,7 @@ def disks_with_room(folder):
     """A disk with room for so many bytes: it gets them, and the line says how many."""
     listing = long_matrix()
     shorts = can_i(), few_holders(), few_reasons(), few_rules(), few_paths(), few_changes(folder), few_lists(), \
-        Case(*memory_logs.few(folder))
+        Case(*memory_logs.few(folder)), Case(*memory_logs.needs(folder))
     rooms = [(case, size) for case in shorts for size in range(len(case.whole[1]) + 1)]
     rooms += [(listing, size) for size in (FULL - 1, FULL, FULL + 1, 2 * FULL, len(listing.whole[1]) - 1)]
     wrong = [(case.name, size) for case, size in rooms if not fills(case, size)]

@@ -1,9 +1,10 @@
-"""The logs over which tests/memory.py refuses memory, reads and writes: for each the arguments of a `Case` about `unused`."""
+"""The logs over which tests/memory.py refuses memory, reads and writes: for each the arguments of a `Case` about `unused` or `least`."""
 
 import json
 import os
 
 from common import PODS, V1, export
+from least import document_of
 
 VERSION = 'audit.k8s.io/v1'
 LONG_USER = 'carol-who-acts-as-others-and-has-a-rather-long-name'
@@ -88,10 +89,30 @@ def long(room):
     return 'unused with long names', ['unused', '--log', put(room, 'long', event('kim', 'get', 'x'))], given, 1, text(line % name for name in names)
 
 
+def needs(room):
+    """What a user needs: a URL of the whole cluster, and an object in a namespace."""
+    rules = {'': [{'nonResourceURLs': ['/healthz/A-part-that-is-rather-long'], 'verbs': ['get']}],
+             'dev': [{'apiGroups': [''], 'resources': ['pods'], 'resourceNames': ['a'], 'verbs': ['get']}]}
+    words = ['least', '--log', put(room, 'needs', *EVENTS), '--names', '--name=a-role-with-a-rather-long-name', 'u:alice']
+    return 'least', words, EXPORT, 0, document_of(rules, 'alice', 'a-role-with-a-rather-long-name')
+
+
+def long_needs(room):
+    """Names of objects that are ever longer, each in a namespace of its own."""
+    names = {letter * 10: letter * size for letter, size in (('a', 40_000), ('b', 40_000), ('c', 150_000), ('d', 600_000))}
+    given = export(item('ClusterRole', {'name': 'r'}, rules=[PODS]), bound('b', 'r', user('kim')))
+    log = put(room, 'long-needs', *(event('kim', 'get', objectRef={'resource': 'pods', 'namespace': home, 'name': name}) for home, name in names.items()))
+    rules = {home: [{'apiGroups': [''], 'resources': ['pods'], 'resourceNames': [name], 'verbs': ['get']}] for home, name in names.items()}
+    return 'least with long names', ['least', '--log', log, '--names', 'u:kim'], given, 0, document_of(rules, 'kim', 'least')
+
+
 def faults(room):
     """Logs that are refused: a line of the second one, half of an event, and one that isn't there."""
     good, bad = put(room, 'good', *EVENTS), put(room, 'bad', *EVENTS, {**event('alice', 'get'), 'user': {'groups': []}})
     missing = os.path.join(room, 'missing.log')
     yield 'G6', ['unused', '--log', good, '--log', bad], EXPORT, 2, '', 'log 2: line 6: G6 bad user'
     yield 'G1', ['unused', '--log', put(room, 'half', json.dumps(EVENTS[1])[:-1])], EXPORT, 2, '', 'log 1: line 1: G1 not JSON'
+    yield 'U12', ['least', '--log', missing, '--name', 'a/b', 'u:kim'], b'', 2, '', 'U12 --name is empty, . or .., or has / or %'
+    yield 'U5 of least', ['least', '--log', missing, 'g:kim'], b'', 2, '', 'U5 bad principal'
+    yield 'G6 of least', ['least', '--log', good, '--log', bad, 'u:alice'], EXPORT, 2, '', 'log 2: line 6: G6 bad user'
     yield 'I1 of a log', ['unused', '--log', good, '--log', missing], EXPORT, 2, '', 'log 2: I1 read fault'

@@ -24,6 +24,7 @@ import plugin_applied
 import plugin_changes
 import plugin_exports
 import plugin_law
+import plugin_least
 import plugin_manifests
 import plugin_paths
 import plugin_questions
@@ -70,7 +71,7 @@ def tools(it):
                        (['universe', '-h'], 'Universe document'), (['can-i', '--help'], '--why'),
                        (['who-can', '-Ah'], 'with kubectl rbacaudit who-can'), (['rules', '-h'], 'u:USER or g:GROUP'), (['matrix', '-h'], '--after'), (['lint', '--help'], 'dangling-role'), (['powers', '-h'], 'act as a user, a group'), (['paths', '-h'], 'with kubectl rbacaudit paths'),
                        (['diff', '--help'], 'objects that the change deletes'), (['diff', '-h'], 'folder with a kustomization'), (['read', '-h'], 'refused'),
-                       (['unused', '-h'], 'no request of an audit log used'), (['access', '-h'], 'a table of types by verbs'), (['access', '--help'], 'names are in the last column'), (['report', '--help'], 'stale aggregates')):
+                       (['unused', '-h'], 'no request of an audit log used'), (['least', '-h'], 'as JSON for kubectl apply'), (['access', '-h'], 'a table of types by verbs'), (['access', '--help'], 'names are in the last column'), (['report', '--help'], 'stale aggregates')):
         status, out, err = got = it.run(*line)
         it.checked('help: %s' % ' '.join(line), (status, err) == (0, '') and said.lower() in out.lower(), got)
     for line, options in ((['--help'],
@@ -80,11 +81,11 @@ def tools(it):
                            ['--force', '-n', '--context', '--kubeconfig', '--request-timeout',
                             '--as',
                                                   '--as-group']),
-                          (['access', '--help'], ['--groups', '--group', '-n', '-A', '-o']), (['unused', '--help'], ['--log', '--skip-system', '-o']), (['report', '--help'], ['-o', '--export', '--partial'])):
+                          (['access', '--help'], ['--groups', '--group', '-n', '-A', '-o']), (['unused', '--help'], ['--log', '--skip-system', '-o']), (['least', '--help'], ['--log', '--names', '--name']), (['report', '--help'], ['-o', '--export', '--partial'])):
         out = it.run(*line)[1]
         it.checked('%s fits a screen' % line, out.count('\n') <= 40 and max(map(len, out.splitlines())) <= 120, out)
         it.checked('%s has all options' % line, all(re.search(option + r'\b', out) for option in options), out)
-    for command in ('unused', 'diff', 'can-i'):
+    for command in ('unused', 'least', 'diff', 'can-i'):
         it.checked('help %s' % command, it.run('help', command) == it.run(command, '--help'), command)
     it.checked('help alone', it.run('help') == it.run('--help'), 'another text')
     it.expect('help of nothing', ['help', 'none'], 2, '', 'kubectl-rbacaudit: there is no command none; kubectl rbacaudit --help lists them\n')
@@ -129,12 +130,13 @@ OWN = {('--export',): 'DIR', ('--partial',): '', ('--context',): 'NAME', ('--kub
 SHOWN = {('-o', '--output'): 'FORMAT', ('--no-headers',): '', ('--color',): 'WHEN'}
 HELP = ('-h', '--help')
 OF_REPORT = {('-o', '--output'): 'FORMAT'}
-# The commands that rbacaudit hasn't, but universe, and unused, whose logs the plugin reads.
-ALONE = ('access', 'unused', 'read', 'universe', 'report', 'page', 'export')
+# The commands that rbacaudit hasn't, but universe; and unused and least, whose logs the plugin reads.
+ALONE = ('access', 'unused', 'least', 'read', 'universe', 'report', 'page', 'export')
 OF_PAGE = {('-n', '--namespace'): 'NS', ('--output',): 'FILE', ('--title',): 'TEXT',
            ('--diff',): 'FILE', ('--every',): ''}
 OF_READ = {('-n', '--namespace'): 'NS'}
 OF_UNUSED = {('--log',): 'LOG', ('--skip-system',): ''}
+OF_LEAST = {('--log',): 'LOG', ('--names',): '', ('--name',): 'NAME'}
 BARE = {('--no-defaults',): ''}
 OF_DIFF = {('--with',): 'PATH', ('--without',): 'PATH', ('--from',): 'PATH', ('--to',): 'PATH', ('--summary',): '', ('--fail-on',): 'WHAT', ('--kustomize',): '', **BARE, **OF_READ}
 OF_EXPORT = {('--force',): '', ('-n', '--namespace'): 'NS', ('--context',): 'NAME',
@@ -142,7 +144,7 @@ OF_EXPORT = {('--force',): '', ('-n', '--namespace'): 'NS', ('--context',): 'NAM
              ('--request-timeout',): 'TIME', ('--as',): 'USER', ('--as-group',): 'GROUP'}
 NOTHING, FILES, FOLDERS = ':4', ':0', ':16'
 COMPLETED = [
-    ([''], ['can-i', 'who-can', 'rules', 'access', 'matrix', 'powers', 'paths', 'lint', 'unused', 'diff', 'read', 'universe', 'report', 'page', 'export'], NOTHING),
+    ([''], ['can-i', 'who-can', 'rules', 'access', 'matrix', 'powers', 'paths', 'lint', 'unused', 'least', 'diff', 'read', 'universe', 'report', 'page', 'export'], NOTHING),
     (['a'], ['access'], NOTHING), (['access', ''], [], NOTHING), (['access', '-n', 'x', 'u:kim', ''], [], FILES), (['access', '-o', ''], ['table', 'wide', 'json'], NOTHING),
     (['r'], ['rules', 'read', 'report'], NOTHING), (['report', ''], [], NOTHING), (['report', '-o', ''], ['md', 'json', 'html'], NOTHING),
     (['report', '--output='], ['md', 'json', 'html'], NOTHING), (['paths', '-o', 'd'], ['dot'], NOTHING), (['paths', '--output=t'], ['table', 'tsv'], NOTHING),
@@ -176,6 +178,8 @@ COMPLETED = [
     (['page', ''], [], FILES),
     (['help', 'un'], ['unused', 'universe'], NOTHING), (['help', 'unused', ''], [], NOTHING),
     (['u'], ['unused', 'universe'], NOTHING), (['unused', ''], [], FILES), (['unused', '--log', ''], [], FILES), (['unused', '--log='], [], FILES),
+    (['l'], ['lint', 'least'], NOTHING), (['least', ''], [], NOTHING), (['least', 'u:kim', ''], [], FILES), (['least', '--log', ''], [], FILES), (['least', '--log='], [], FILES),
+    (['least', '--names', '--name', ''], [], NOTHING), (['least', '--name', 'x', '--log', 'y', 'u:kim', 'z', ''], [], FILES), (['least', '--n'], ['--names', '--name'], NOTHING),
     (['unused', '--log', 'x', '--log', 'y', '--l'], ['--log'], NOTHING), (['unused', '--s'], ['--skip-system'], NOTHING), (['unused', '-o', 'j'], ['json'], NOTHING),
     (['diff', ''], [], NOTHING), (['diff', '--with', ''], [], FILES), (['diff', '--to', ''], [], FILES), (['diff', '--without='], [], FILES),
     (['read', ''], [], FILES), (['read', '-n', ''], [], NOTHING),
@@ -199,8 +203,8 @@ COMPLETED = [
 
 def options_of(command):
     """The options of a command, with their values: those of rbacaudit, and the plugin's own."""
-    if command in ('diff', 'read', 'export', 'universe', 'report', 'page', 'unused'):
-        own = {'unused': {**OF_UNUSED, **OWN, **SHOWN}, 'export': OF_EXPORT, 'universe': OWN, 'report': {**OWN, **OF_REPORT}, 'page': {**OWN, **OF_PAGE}, 'diff': {**OWN, **OF_DIFF, **SHOWN}, 'read': OF_READ}[command]
+    if command in ('diff', 'read', 'export', 'universe', 'report', 'page', 'unused', 'least'):
+        own = {'unused': {**OF_UNUSED, **OWN, **SHOWN}, 'least': {**OF_LEAST, **OWN}, 'export': OF_EXPORT, 'universe': OWN, 'report': {**OWN, **OF_REPORT}, 'page': {**OWN, **OF_PAGE}, 'diff': {**OWN, **OF_DIFF, **SHOWN}, 'read': OF_READ}[command]
         return {**own, HELP: ''}
     command = {'access': 'rules'}.get(command, command)
     return {**{names: value for names, (value, _) in options(command).items()}, **OWN, **SHOWN, **(BARE if command == 'lint' else {})}
@@ -303,5 +307,5 @@ def told(words_, folder, tools_=os.path.dirname(PROGRAM)):
 if __name__ == '__main__':
     sys.exit(tested(*plugin_exports.CHECKS, *plugin_questions.CHECKS, *plugin_paths.CHECKS, *plugin_remarks.CHECKS, *plugin_changes.CHECKS, *plugin_manifests.CHECKS, *plugin_advice.CHECKS,
                     *plugin_server.CHECKS, *plugin_terminal.CHECKS, *plugin_show.CHECKS, *plugin_sarif.CHECKS, *plugin_access.CHECKS, *plugin_report.CHECKS,
-                    *plugin_unused.CHECKS, *plugin_states.CHECKS, *plugin_applied.CHECKS, *plugin_law.CHECKS,
+                    *plugin_unused.CHECKS, *plugin_least.CHECKS, *plugin_states.CHECKS, *plugin_applied.CHECKS, *plugin_law.CHECKS,
                     tools, script, make_run, completions, in_kubectl, man_page))

@@ -446,8 +446,8 @@ def words(it):
         status, out, err = got = it.run(*line)
         it.checked('refused: %s' % ' '.join(line), (status, out) == (2, '') and said in err, got)
     it.checked('no line was refused after a call', not it.lines('calls'), 'a call')
-    # (those of diff and unused that take a value are the plugin's own)
-    dashed = [([command, name], name, '-x') for command in commands() if command not in ('diff', 'unused')
+    # (those of diff and unused that take a value are the plugin's own, and least looks for a log first)
+    dashed = [([command, name], name, '-x') for command in commands() if command not in ('diff', 'unused', 'least')
               for names, (value, _) in options(command).items() if value for name in names]
     for line, name, value in [*dashed, (['who-can', '-A', '-n'], '-n', '--partial'),
                               (['can-i', '--as=kim', '-qAn'], '-n', '-x')]:

@@ -202,13 +202,13 @@ def changes_of(roles, bindings, missing):
 def help_and_usage():
     """Help on standard output with status 0; a refused line on standard error with status 2."""
     for words in (['--help'], ['can-i', '--help'], ['who-can', '--help'], ['rules', '--help'], ['matrix', '--help'], ['universe', '--help'],
-                  ['lint', '--help'], ['powers', '--help'], ['paths', '--help'], ['diff', '--help'], ['unused', '--help'], ['-h'],
+                  ['lint', '--help'], ['powers', '--help'], ['paths', '--help'], ['diff', '--help'], ['unused', '--help'], ['least', '--help'], ['-h'],
                   ['lint', '-h']):
         ended = run(words)
         checked('%s is on standard output' % ' '.join(words),
              ended.returncode == 0 and b'Usage' in ended.stdout and not ended.stderr, repr(ended))
     commands = run(['--help']).stdout
-    for command in (b'can-i', b'who-can', b'rules', b'matrix', b'universe', b'lint', b'powers', b'paths', b'diff', b'unused'):
+    for command in (b'can-i', b'who-can', b'rules', b'matrix', b'universe', b'lint', b'powers', b'paths', b'diff', b'unused', b'least'):
         checked('help names %s' % command.decode(), command in commands, repr(commands))
     options = run(['can-i', '--help']).stdout
     for option in (b'--as', b'--groups', b'--group <G>', b'-n, --namespace', b'-A, --all-namespaces', b'--in-namespace', b'--subresource', b'-q, --quiet',
@@ -216,7 +216,7 @@ def help_and_usage():
         checked('help names %s' % option.decode(), option in options, repr(options))
     for line in (b'Namespace to check (default: default)', b'five fields, joined by tabs', b'rbacaudit can-i --as alice -n dev get pods'):
         checked('help of can-i says "%s"' % line.decode(), line in options, repr(options))
-    for command in ('who-can', 'rules', 'matrix', 'lint', 'powers', 'paths', 'diff', 'unused'):
+    for command in ('who-can', 'rules', 'matrix', 'lint', 'powers', 'paths', 'diff', 'unused', 'least'):
         text = run([command, '--help']).stdout
         checked('help of %s names FILE and has an example' % command, b'FILE' in text and b'rbacaudit %s ' % command.encode() in text, repr(text))
     for option in (b'--every', b'--once', b'--after <TOKEN>', b'--limit <N>'):
@@ -237,6 +237,8 @@ def help_and_usage():
         checked('help of lint says "%s"' % said.decode(), said in run(['lint', '--help']).stdout)
     for said in (b'--log <LOG>', b'--skip-system', b'ten fields, joined by tabs', b'The exit status is 1 if a line is listed'):
         checked('help of unused says "%s"' % said.decode(), said in run(['unused', '--help']).stdout)
+    for said in (b'--log <LOG>', b'--names', b'--name <NAME>', b'<WHO>'):
+        checked('help of least says "%s"' % said.decode(), said in run(['least', '--help']).stdout)
     no_tokens = ['', 'MQ==', 'M', 'OQ', 'MQ', 'Mg', 'Mw', 'MQlnOmEJLQktCS0JeAkt=']
     key = '\tg:a\t-\t-\t-\tx\t-'
     no_tokens += map(token_of, ['2' + key, '1' + key + '\tClusterRoleBinding\t-\tb', '3' + key + '\tClusterRoleBinding\t-\tb',

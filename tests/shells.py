@@ -404,6 +404,11 @@ def of_words():
     yield 'rbacaudit u', ['universe', 'unused']
     yield 'rbacaudit unused --', ['--log', '--skip-system', '--help']
     yield 'rbacaudit unused --skip-system --log=a.log --', ['--log', '--help']
+    yield 'rbacaudit l', ['lint', 'least']
+    yield 'rbacaudit least ', []
+    yield 'rbacaudit least --names --log=a.log u:kim --', ['--log', '--name', '--help']
+    yield 'rbacaudit least --name ci --log a.log ', []
+    yield 'rbacaudit least --name', ['--name', '--names']
     yield 'rbacaudit matrix --once --', ['--every', '--after', '--limit', '--help']
     yield 'rbacaudit d', ['diff']
     yield 'rbacaudit diff --before a.json b.json --', ['--after', '--without', '--with', '--help']
@@ -435,6 +440,9 @@ OF_FILES = {
     'rbacaudit unused --log ': {'a.json', 'b.json', 'sub'},
     'rbacaudit unused --log a.log --log sub/': {'sub/c.json'},
     'rbacaudit unused --log=notes.txt --skip-system a': {'a.json'},
+    'rbacaudit least --log ': {'a.json', 'b.json', 'sub'},
+    'rbacaudit least --log a.log u:kim ': {'a.json', 'b.json', 'sub'},
+    'rbacaudit least u:kim --names --log=notes.txt --name ci a': {'a.json'},
     'rbacaudit diff --before ': {'a.json', 'b.json', 'sub'},
     'rbacaudit diff --before a.json b': {'b.json'},
     'rbacaudit diff --before a.json b.json --after a.json ': {'a.json', 'b.json', 'sub'},

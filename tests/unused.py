@@ -324,12 +324,11 @@ class Log:
 def encoded(draw, path):
     """A path with some of its bytes as %XX."""
     return ''.join('%%%02X' % byte if byte > 127 or byte in b'%?' or draw.random() < 0.1 else '%%%02x' % byte if byte < 33 else chr(byte)
-                   for byte in path.encode())
+                   for byte in path.encode(errors='surrogateescape'))
 
 
-def logs_of(draw, items):
-    """One log or several, of which one may be empty, and the last line of each may lack its newline."""
-    lines = Log(draw, items).lines()
+def logs_of(draw, lines):
+    """One log or several of these lines, of which one may be empty, and the last line of each may lack its newline."""
     count = draw.choice([1, 1, 1, 2, 3])
     ends = sorted(draw.randint(0, len(lines)) for _ in range(count - 1))
     parts = [lines[at:end] for at, end in zip([0, *ends], [*ends, len(lines)])]
@@ -338,9 +337,9 @@ def logs_of(draw, items):
 
 # ---- what the program says
 
-def told(room, items, logs, options, standard=None):
-    """Status, output and error of `unused`. A log whose number is `standard` is read from standard input; without logs the export is."""
-    words = [*options]
+def told(room, items, logs, options, standard=None, command='unused'):
+    """Status, output and error of a command over logs. A log whose number is `standard` is read from standard input; without one the export is."""
+    words = [command, *options]
     for number, log in enumerate(logs):
         path = os.path.join(room, 'log%d' % number)
         with open(path, 'wb') as file:
@@ -351,7 +350,7 @@ def told(room, items, logs, options, standard=None):
         words.append(os.path.join(room, 'export.json'))
         with open(words[-1], 'wb') as file:
             file.write(text)
-    return ran(['unused', *words], text if standard is None else logs[standard])
+    return ran(words, text if standard is None else logs[standard])
 
 
 def ran(words, given):
@@ -439,7 +438,7 @@ def tried(seed, number, room, counts, ask):
     """What is wrong with the answers about an export and its logs, or nothing."""
     draw = random.Random('%s %d' % (seed, number))
     items = items_of_export(draw)
-    logs = logs_of(draw, items)
+    logs = logs_of(draw, Log(draw, items).lines())
     options = ['--skip-system'] * (draw.random() < 0.3)
     standard = draw.randrange(len(logs)) if draw.random() < 0.2 else None
     wanted = unused(items, logs, bool(options))
@@ -495,16 +494,16 @@ def log_of(log):
     return ''.join((it if isinstance(it, str) else json.dumps(it)) + '\n' for it in log).encode()
 
 
-def rows(ask):
-    """How many of the worked rows have the answer that they should, and how many don't."""
-    with open(os.path.join(TOP, 'tests', 'rows_unused.json'), encoding='utf-8') as file:
-        table = json.load(file)['unused']
+def rows(ask, command='unused', answer_of=lambda row: (int(bool(row.get('lines'))), ''.join(it + '\n' for it in row.get('lines', [])), '')):
+    """How many of the worked rows have the answer that they should, and how many don't. Several rows may be about one export, by its name."""
+    with open(os.path.join(TOP, 'tests', 'rows_%s.json' % command), encoding='utf-8') as file:
+        table = json.load(file)
     passed = failed = 0
     with tempfile.TemporaryDirectory() as room:
-        for row in table:
-            options, wanted = row.get('options', []), row.get('lines', [])
-            answer = (2, '', 'rbacaudit: %s\n' % row['fault']) if 'fault' in row else (int(bool(wanted)), ''.join(it + '\n' for it in wanted), '')
-            items = [copy.deepcopy(it) for it in row['items']]
+        for row in table[command]:
+            options = row.get('options', [])
+            answer = (2, '', 'rbacaudit: %s\n' % row['fault']) if 'fault' in row else answer_of(row)
+            items = copy.deepcopy(table['exports'][row['items']] if isinstance(row['items'], str) else row['items'])
             for item in items:
                 item['metadata'].setdefault('labels', {})
             got = ask(room, items, [*map(log_of, row['logs'])], options, row.get('standard'))
@@ -518,14 +517,20 @@ def rows(ask):
 
 def reference(words):
     """Prints the lines of the reading over logs and files."""
-    asked = argparse.ArgumentParser(prog='unused.py --reference', allow_abbrev=False)
+    return answer_over(words, lambda asked: asked.add_argument('--skip-system', action='store_true'),
+                       lambda items, logs, asked: unused(items, logs, asked.skip_system))
+
+
+def answer_over(words, add_own, answer):
+    """Prints the answer of a reading over logs and files; what a command has beside these is added to what is read. The status."""
+    asked = argparse.ArgumentParser(allow_abbrev=False)
     asked.add_argument('--log', action='append', required=True)
-    asked.add_argument('--skip-system', action='store_true')
+    add_own(asked)
     asked.add_argument('files', nargs='*')
-    asked = asked.parse_args(words)
+    asked = asked.parse_intermixed_args(words)
     logs = [contents(path) for path in asked.log]
     items = [item for path in asked.files or ['-'] for item in items_of(contents(path))]
-    status, out, err = unused(items, logs, asked.skip_system)
+    status, out, err = answer(items, logs, asked)
     sys.stdout.write(out)
     sys.stderr.write(err)
     return status
@@ -549,9 +554,14 @@ def contents(path):
 
 
 def main(seed='1', number='300', ask=told):
-    counts, (passed, failed) = collections.Counter(), rows(ask)
     if ask is told:
         log_streams()
+    return try_all(seed, number, rows(ask), tried, too_few, ask)
+
+
+def try_all(seed, number, of_rows, tried, too_few, ask):
+    """Tries so many exports, beside rows of which so many have passed and failed, and counts them all in the last line; the status."""
+    counts, (passed, failed) = collections.Counter(), of_rows
     with tempfile.TemporaryDirectory() as room:
         for at in range(int(number)):
             wrong = tried(seed, at, room, counts, ask)
@@ -563,17 +573,20 @@ def main(seed='1', number='300', ask=told):
     if few:
         print('FAIL too few: %s' % ', '.join(few))
         failed += 1
-    passed, failed = passed + results.count(True), failed + results.count(False)
+    return end_with(passed + results.count(True), failed + results.count(False))
+
+
+def end_with(passed, failed):
     print('%d passed, %d failed' % (passed, failed))
     return 1 if failed else 0
 
 
-def rows_alone():
-    passed, failed = rows(itself)
-    print('%d passed, %d failed' % (passed, failed))
-    return 1 if failed else 0
+def run_mode(main, rows, reference, itself):
+    """Does what the command line asks for: tries the program, the reading in its place, or its rows alone; or prints an answer of the reading."""
+    mode, words = (sys.argv[1], sys.argv[2:]) if sys.argv[1:2] and sys.argv[1].startswith('--') else ('', sys.argv[1:3])
+    return {'': lambda: main(*words), '--itself': lambda: main(*words, ask=itself), '--rows': lambda: end_with(*rows(itself)),
+            '--reference': lambda: reference(words)}[mode]()
 
 
 if __name__ == '__main__':
-    MODE, WORDS = (sys.argv[1], sys.argv[2:]) if sys.argv[1:2] and sys.argv[1].startswith('--') else ('', sys.argv[1:3])
-    sys.exit({'': lambda: main(*WORDS), '--itself': lambda: main(*WORDS, ask=itself), '--rows': rows_alone, '--reference': lambda: reference(WORDS)}[MODE]())
+    sys.exit(run_mode(main, rows, reference, itself))

@@ -1,4 +1,4 @@
-"""unused.py: logs one behind the other, which line of which log a line of all is, and how much isn't used."""
+"""logs.py and unused.py: logs one behind the other, which line of which log a line of all is, and how much isn't used."""
 
 import gzip
 import json
@@ -6,8 +6,9 @@ import os
 import tempfile
 import unittest
 
+from rbacaudit_kubectl.logs import Logs
 from rbacaudit_kubectl.terminal import Progress, Refused
-from rbacaudit_kubectl.unused import Logs, count_bindings, head_of
+from rbacaudit_kubectl.unused import count_bindings, head_of
 
 V1 = 'rbac.authorization.k8s.io/v1'
 
