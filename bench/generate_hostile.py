@@ -14,6 +14,7 @@ KIND is one of
     product      a rule of N API groups and N resources, and a user who has it
     bindings     N bindings of a user each
     chain        N cluster roles, each of which lets one bind the next; the first is bound in M namespaces, or in the cluster if M is 0
+    aggregates   N aggregated cluster roles, each of which lets one bind each; the first is bound in M namespaces
     nested       a list of lists of N documents, each nested as deep as may be
     items        N items that are small objects
     members      an item of N small objects
@@ -113,6 +114,14 @@ def chain(n, m):
     return [*roles, role('r%d' % (n - 1), PODS), *(in_homes if m else [bound])]
 
 
+def aggregates(n, m):
+    names = ['r', *many(n - 1, 'a%d')]
+    rule = '{"verbs":["bind"],"apiGroups":["rbac.authorization.k8s.io"],"resources":["clusterroles"],"resourceNames":["%s"]}' % '","'.join(names)
+    bound = binding('b', subject('User', 'u')).replace('"ClusterRoleBinding"', '"RoleBinding"')
+    in_homes = (bound.replace('"metadata":{', home) for home in many(m, '"metadata":{"namespace":"n%d",'))
+    return [role('p', rule, '"l":"1"'), *(role(name, selectors='{"matchLabels":{"l":"1"}}') for name in names), *in_homes]
+
+
 def nested(n, _):
     return ['{"kind":"x","y":%s}' % ('[' * 120 + ']' * 120)] * n
 
@@ -130,8 +139,8 @@ def collide(_n, _m):
 
 
 KINDS = {'ring': ring, 'all': select_all, 'steps': steps, 'expressions': expressions, 'values': values, 'labels': labels, 'groups': groups,
-         'names': names, 'product': product, 'bindings': bindings, 'chain': chain, 'nested': nested, 'items': items, 'members': members,
-         'collide': collide}
+         'names': names, 'product': product, 'bindings': bindings, 'chain': chain, 'aggregates': aggregates, 'nested': nested, 'items': items,
+         'members': members, 'collide': collide}
 
 
 def main(kind, out, n='1000', m='1000'):

@@ -65,6 +65,10 @@ for size in "1250 0" "2500 0" "5000 0" "125 50" "250 50" "500 50"; do
     hostile chain $size
     measure "${size% *} roles that bind one another in a chain, in ${size#* } namespaces" paths u:u
 done
+for count in 50 100 200; do
+    hostile aggregates "$count" 50
+    measure "$count aggregated roles that may bind one another, in 50 namespaces" paths u:u
+done
 hostile nested 200000
 measure "values nested to the limit" can-i --as kim -A get pods
 hostile items 9000000
