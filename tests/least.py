@@ -49,11 +49,16 @@ def in_bytes(text):
     return text.encode(errors='surrogateescape')
 
 
+def in_json(text):
+    """Whether JSON can carry a text: it is UTF-8."""
+    return not any('\udc80' <= it <= '\udcff' for it in text)
+
+
 def can_be_written(request):
     """Whether none of the words of a request would be a wildcard in a rule, and JSON can carry them; only a URL needn't be UTF-8."""
     if request.target[0] == 'url':
         path = request.target[1]
-        return request.verb != '*' and not path.endswith('*') and path.encode(errors='replace') == in_bytes(path)
+        return request.verb != '*' and not path.endswith('*') and in_json(path)
     _, group, resource, _ = request.target
     return '*' not in (request.verb, group, resource) and not resource.startswith('*/')
 
@@ -167,7 +172,7 @@ def universe_of(draw, requests, user):
     return {'apiVersion': 'rbacaudit/v1', 'kind': 'Universe', 'principals': [{'user': user, 'groups': some(draw, TEAMS)} if draw.random() < 0.5 else {'user': user}],
             'namespaces': words(lambda it: it.namespace, 4, '', 'other'), 'verbs': words(lambda it: it.verb, 5, '*', 'other'),
             'resources': [{'group': group, 'resource': resource} for group, resource in itertools.product(groups, resources)],
-            'names': words(of_resource(3), 4, '', 'other'), 'urls': words(lambda it: it.target[1] if it.target[0] == 'url' else None, 5, '/other', '/*')}
+            'names': words(of_resource(3), 4, '', 'other'), 'urls': words(lambda it: it.target[1] if it.target[0] == 'url' and in_json(it.target[1]) else None, 5, '/other', '/*')}
 
 
 def questions(universe):
