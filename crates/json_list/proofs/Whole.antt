@@ -7,7 +7,7 @@ use Rattle.json.specs.Json.{parse_map}
 use Rattle.json.proofs.Grammar.{value-begin_object}
 use Rattle.serde_json.specs.Data.{Members, no_members}
 use Rattle.serde_json.specs.Read.{of_json, read}
-use Rattle.json_list.specs.List.{IsList}
+use Rattle.json_list.specs.List.{IsList, IsUnread}
 use Rattle.json_list.specs.OnePass.{members_in, object_from, IsReadUpTo, IsListUpTo}
 use Rattle.json_list.specs.Places.{AreRefused, HasOneList, IsUpToItems}
 use Rattle.json_list.proofs.OnePass.{object_by}
@@ -61,3 +61,13 @@ module _ (text : List ℕ) (ts : List Token) (begin : tokens text ≡ Token.begi
 
     pub list_up_to : IsListUpTo text at
     list_up_to is = are.1 (inside is)
+
+-- ---- a text that is one value
+
+unread_by : (o : Option (json.Json × List Token)) → ((j : json.Json) (r : List Token) → o ≡ Some (j, r) → of_json j ≡ None) → option_and_then of_json (whole o) ≡ None
+unread_by None is = refl
+unread_by (Some (j, [])) is = is j [] refl
+unread_by (Some (j, t ∷ r)) is = refl
+
+pub unread : (text : List ℕ) → IsUnread 127 (tokens text) → read text ≡ None
+unread text is = unread_by (json.value 127 (tokens text)) is

@@ -1,6 +1,7 @@
 //! What is kept of a value that is read.
 
-ghost use Rattle.std.specs.Prelude.{◌≡◌, ℕ, List, Option, Some};
+ghost use Rattle.std.specs.Prelude.{◌≡◌, ℕ, List, Option, Some, map};
+ghost use Rattle.json_list.specs.Lean.{is_among};
 
 /// What is kept of a value: which members of an object, and what of each of them. A member that is
 /// left out is read as well, so that whatever `serde_json` refuses is refused, but no value is made
@@ -23,4 +24,16 @@ impl Kept for Whole {
     fn under(self, _name: &str) -> Option<Self> {
         Some(self)
     }
+}
+
+/// Whether a name is one of these (own). Doesn't allocate.
+pub fn is_among(names: &[&str], name: &str) -> bool
+    ensures { result ≡ is_among (map (λ known. known.now) names.now) name.now }
+{
+    for known in names {
+        if name == *known {
+            return true;
+        }
+    }
+    false
 }

@@ -1,5 +1,5 @@
-//! A large JSON list, read item by item, so that only one item's value is in memory at a time. A
-//! text means what `serde_json` reads it as.
+//! A JSON text, read without values of what nobody uses; a large list is read item by item, so that
+//! only one item's value is in memory at a time. A text means what `serde_json` reads it as.
 #![tactic(auto)]
 
 mod fault;
@@ -7,7 +7,9 @@ mod kept;
 mod one_pass;
 mod pass;
 mod value;
+mod whole_text;
 
 pub use fault::ReadFault;
-pub use kept::Kept;
+pub use kept::{Kept, is_among};
 pub use one_pass::{ListFront, Unread, open_front};
+pub use whole_text::read_text;

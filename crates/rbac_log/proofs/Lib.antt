@@ -6,3 +6,4 @@ pub mod LineBytes
 pub mod LogLines
 pub mod PieceLines
 pub mod Proper
+pub mod Unread

@@ -5,5 +5,6 @@ pub mod FaultTexts
 pub mod Line
 pub mod Logs
 pub mod Outcome
+pub mod Part
 pub mod Reading
 pub mod User

@@ -67,7 +67,7 @@ is_blank b = b == 32 || b == 9 || b == 10 || b == 13
 unfoldable pub requests_in : Text → Outcome (List LoggedRequest)
 requests_in line = if list_all is_blank line then Ok [] else told_by_json (read line)
 
--- a value was read, and is that of the text; or the text has none, unless memory ran out
-abbrev pub IsJsonOf : Outcome Value → Option Data → Type 0
-IsJsonOf (Ok value) d = d ≡ Some (view value)
-IsJsonOf (Err e) d = e ≢ NoMemory → (e ≡ NotJson) × (d ≡ None)
+-- a value was read that tells what the line's tells; or the line has none, unless memory ran out
+abbrev pub IsToldBy : Outcome Value → Option Data → Type 0
+IsToldBy (Ok value) d = told_by_json d ≡ told_by_value (view value)
+IsToldBy (Err e) d = e ≢ NoMemory → (e ≡ NotJson) × (d ≡ None)

@@ -10,6 +10,7 @@ mod laws;
 mod line;
 mod log_fault;
 mod logged;
+mod part;
 mod reading;
 mod user;
 

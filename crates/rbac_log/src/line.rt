@@ -7,14 +7,17 @@ ghost use Rattle.serde_json.specs.View.{view};
 ghost use Rattle.json_fields.specs.Fields.{text_at};
 ghost use Rattle.rbac_log.specs.Line.{has_value, is_kind, has_value_or_none, is_item, is_blank};
 ghost use Rattle.rbac_log.specs.Line.{told_by_item, told_by_items, told_by_value, requests_in};
-ghost use Rattle.rbac_log.specs.Line.{IsJsonOf};
+ghost use Rattle.rbac_log.specs.Line.{IsToldBy};
 ghost use Rattle.rbac_log.specs.Event.{told};
 ghost use Rattle.rbac_log.specs.Outcome.{Appends, TellsAll};
 
 use crate::event::add_told;
 use crate::fault::LineFault;
 use crate::logged::LoggedRequest;
+use crate::part::Part;
+use json::Scratch;
 use json_fields::{list_field, text_field};
+use json_list::{ReadFault, read_text};
 use serde_json::Value;
 use std::alloc::Global;
 
@@ -108,14 +111,14 @@ fn told_by_value(alloc: Global, value: &Value) -> Result<Vec<LoggedRequest>, Lin
     }
 }
 
-// The JSON value that a line is.
-fn parse(alloc: Global, line: &str) -> Result<Value, LineFault>
-    ensures { IsJsonOf result (read line.now) }
+// The JSON value that a line is, without the members that aren't read.
+fn parse(alloc: Global, line: &str, scratch: &mut Scratch) -> Result<Value, LineFault>
+    ensures { IsToldBy result (read line.now) }
 {
-    match Value::from_str(alloc, line) {
+    match read_text(alloc, line, scratch, Part::Event) {
         Ok(value) => Ok(value),
-        Err(error) if error.is_memory() => Err(LineFault::NoMemory),
-        Err(_) => Err(LineFault::NotJson),
+        Err(ReadFault::NoMemory) => Err(LineFault::NoMemory),
+        Err(ReadFault::Refused) => Err(LineFault::NotJson),
     }
 }
 
@@ -137,19 +140,24 @@ fn is_empty(line: &str) -> bool
 /// (Auditing; impersonation: Authenticating, "User impersonation"). The line is an `Event` or an
 /// `EventList` of `audit.k8s.io/v1`, as JSON; an empty line, or one of blanks alone, has no requests
 /// (own). An event that was only received, that the server has forbidden, or that is of somebody
-/// whom it didn't know (401) has none either.
+/// whom it didn't know (401) has none either. `scratch` is room for a line's texts, which the lines
+/// of a log share.
 ///
 /// # Errors
 ///
 /// G1 to G9, exactly if that is the line's fault: of an event the one with the least number, of a
 /// list that of its first event with a fault. `NoMemory` only if it runs out of memory.
 #[tactic(auto, unfolding(crate::specs::Line::requests_in))]
-pub fn requests_in_line(alloc: Global, line: &str) -> Result<Vec<LoggedRequest>, LineFault>
+pub fn requests_in_line(
+    alloc: Global,
+    line: &str,
+    scratch: &mut Scratch,
+) -> Result<Vec<LoggedRequest>, LineFault>
     ensures { TellsAll result (requests_in line.now) }
 {
     if is_empty(line) {
         return Ok(Vec::new(alloc));
     }
-    let value = parse(alloc, line)?;
+    let value = parse(alloc, line, scratch)?;
     told_by_value(alloc, &value)
 }

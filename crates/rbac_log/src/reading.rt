@@ -15,6 +15,7 @@ use crate::fault::LineFault;
 use crate::line::requests_in_line;
 use crate::log_fault::LogFault;
 use crate::logged::LoggedRequest;
+use json::Scratch;
 use rbac_streams::{Failed, Source};
 use rbac_terms::cut_at_first;
 use rbac_use::Log;
@@ -47,7 +48,12 @@ fn add_requests(requests: Vec<LoggedRequest>, log: &mut Log) -> Result<(), Alloc
 }
 
 // Adds the requests of a line, which is given as its bytes.
-fn add_line(alloc: Global, bytes: &[u8], log: &mut Log) -> Result<(), LineFault>
+fn add_line(
+    alloc: Global,
+    bytes: &[u8],
+    scratch: &mut Scratch,
+    log: &mut Log,
+) -> Result<(), LineFault>
     ensures ok { OnOk result
         ((rs : List Logged) × (line_requests bytes.now ≡ Ok rs) × HasAdded log.old rs log.new) }
     ensures err { IfErr result
@@ -56,7 +62,7 @@ fn add_line(alloc: Global, bytes: &[u8], log: &mut Log) -> Result<(), LineFault>
     let Ok(line) = from_utf8(bytes) else {
         return Err(LineFault::NotJson);
     };
-    let requests = requests_in_line(alloc, line)?;
+    let requests = requests_in_line(alloc, line, scratch)?;
     add_requests(requests, log)?;
     Ok(())
 }
@@ -72,11 +78,13 @@ fn fault_at(number: u128, fault: LineFault) -> LogFault
     }
 }
 
-// What was read of a log: how many lines have ended, and the bytes of the next one.
+// What was read of a log: how many lines have ended, and the bytes of the next one; and room for the
+// texts of a line.
 #[derive(Drop)]
 struct Tail {
     ended: u128,
     bytes: Vec<u8>,
+    scratch: Scratch,
 }
 
 impl Tail {
@@ -119,7 +127,7 @@ impl Tail {
             × (told_at (suc self.old.ended) self.old.bytes.items ≡ Err fault))) }
     {
         let number = self.number();
-        match add_line(alloc, self.bytes.as_slice(), log) {
+        match add_line(alloc, self.bytes.as_slice(), &mut self.scratch, log) {
             Ok(()) => {
                 self.ended = number;
                 self.bytes.clear();
@@ -179,6 +187,7 @@ pub fn read_log<R: Read + Drop>(
     let mut tail = Tail {
         ended: 0,
         bytes: Vec::new(alloc),
+        scratch: Scratch::new(alloc),
     };
     for read in 0..u64::MAX {
         match source.read(&mut chunk) {

@@ -16,10 +16,18 @@ abbrev pub target_kind : What → Text
 target_kind (Resource group text name) = codes "resource"
 target_kind (Url path) = codes "url"
 
--- the texts of a request: its key, what the target is, and then the groups that were given
+-- what the target is and its texts, and then the groups that were given
+abbrev pub target_texts : RequestView → List Text
+target_texts r = target_kind r.target ∷ group_of r.target ∷ text_of r.target ∷ name_of r.target
+    ∷ given_of r.who
+
+-- where and with which verb it was asked, and then these
+abbrev pub asked_texts : RequestView → List Text
+asked_texts r = r.namespace ∷ r.verb ∷ target_texts r
+
+-- the texts of a request: its key, and then these
 abbrev pub request_texts : RequestView → List Text
-request_texts r = who_key r.who ∷ r.namespace ∷ r.verb ∷ target_kind r.target ∷ group_of r.target
-    ∷ text_of r.target ∷ name_of r.target ∷ given_of r.who
+request_texts r = who_key r.who ∷ asked_texts r
 
 -- the order of requests: text by text
 abbrev pub request_cmp : RequestView → RequestView → Ordering

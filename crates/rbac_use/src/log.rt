@@ -2,7 +2,9 @@
 
 ghost use Rattle.std.specs.Prelude.{◌≡◌, ◌⊎◌, ◌↔◌, [], Contains, IfOk, OnErr, OnOk};
 ghost use Rattle.rbac_diff.specs.Requests.{RequestView};
-ghost use Rattle.rbac_use.specs.Logs.{request_cmp, target_kind};
+ghost use Rattle.std.specs.Cmp.Lexicographic.{slice_cmp};
+ghost use Rattle.rbac_terms.specs.Text.{text_cmp};
+ghost use Rattle.rbac_use.specs.Logs.{asked_texts, target_kind, target_texts};
 ghost use Rattle.rbac_use.specs.Requests.{log_of, request_of};
 
 use crate::request::Request;
@@ -80,17 +82,34 @@ impl Ord for Entry {
     ghost matches_eq = { λ _ _. refl };
 
     fn cmp(&self, other: &Self) -> Ordering {
-        let given = self.who.given().cmp(other.who.given());
-        let name = self.target.name().cmp(other.target.name());
-        let text = self.target.text().cmp(other.target.text());
-        let group = self.target.group().cmp(other.target.group());
-        let kind = kind_of(&self.target).cmp(kind_of(&other.target));
-        let target = kind.then(group.then(text.then(name.then(given))));
-        let verb = self.verb.cmp(&other.verb);
-        let namespace = self.namespace.cmp(&other.namespace);
-        let who = self.who.key().cmp(other.who.key());
-        who.then(namespace.then(verb.then(target)))
+        match self.who.key().cmp(other.who.key()) {
+            Ordering::Equal => cmp_asked(self, other),
+            by_who => by_who,
+        }
     }
+}
+
+// The order of what the same user asks. Mostly users or namespaces differ, and then the other texts
+// aren't compared.
+fn cmp_asked(entry: &Entry, other: &Entry) -> Ordering
+    ensures { result ≡ slice_cmp text_cmp (asked_texts entry.now) (asked_texts other.now) }
+{
+    match entry.namespace.cmp(&other.namespace) {
+        Ordering::Equal => entry.verb.cmp(&other.verb).then(cmp_target(entry, other)),
+        by_place => by_place,
+    }
+}
+
+// The order of the targets, and then of the groups that were given.
+fn cmp_target(entry: &Entry, other: &Entry) -> Ordering
+    ensures { result ≡ slice_cmp text_cmp (target_texts entry.now) (target_texts other.now) }
+{
+    let given = entry.who.given().cmp(other.who.given());
+    let name = entry.target.name().cmp(other.target.name());
+    let text = entry.target.text().cmp(other.target.text());
+    let group = entry.target.group().cmp(other.target.group());
+    let kind = kind_of(&entry.target).cmp(kind_of(&other.target));
+    kind.then(group.then(text.then(name.then(given))))
 }
 
 // What the target is.

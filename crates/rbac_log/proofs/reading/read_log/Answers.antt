@@ -1,8 +1,8 @@
-use Rattle.std.proofs.Common.{◌≤◌, ◌∙◌, ◌++◌, ap, arith, rules, take}
-use Rattle.std.proofs.KnownBytes.{Consumes-trans}
+use Rattle.std.proofs.Common.{◌≤◌, ◌∙◌, ◌++◌, [], ap, arith, refl, rules, take}
+use Rattle.std.proofs.KnownBytes.{Consumes-nil, Consumes-trans}
 use Rattle.std.proofs.lemmas.List.{length-append, length-take-le}
 use Rattle.std.proofs.lemmas.Result.{err_from_is_err_and}
-use Rattle.rbac_log.proofs.LogLines.{fails_at_end, read_all}
+use Rattle.rbac_log.proofs.LogLines.{fails_at_end, read_all, read_nothing}
 use Rattle.rbac_log.proofs.PieceLines.{consumes_nothing, ends_at, if_err, no_read_fault, on_ok, stops_at_end, stops_within}
 use Rattle.rbac_log.proofs.reading.read_log.Goals as goal
 
@@ -47,6 +47,17 @@ returns-in_err-take-in-Ok-clause-failed g c =
     let i = c.loop-read.invariant in
     let piece = take c.in-Ok.n c.read.new.room in
     rw (p.1, p.2) (c.in-Ok.ensures.ok.3 ∙ no_read_fault c.in_err-take-in-Ok.field-0.0 (i.bytes ++ piece) (c.in_err-take-in-Ok.ensures.err i.bytes c.args.log.now i.read))
+
+pub loop-read-init : goal.loop-read-init
+loop-read-init g c = record {
+  bytes = [];
+  given = Consumes-nil _;
+  many = omega arith;
+  read = read_nothing _ c.args.log.now refl c.new.ensures.items;
+  short = rw (c.new.ensures.items) (omega arith);
+  few = omega arith;
+  well = c.requires;
+}
 
 pub loop-read-preserved : goal.loop-read-preserved
 loop-read-preserved g c =
