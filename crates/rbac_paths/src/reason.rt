@@ -19,8 +19,8 @@ use crate::holding::{Holding, sources_of};
 use crate::node::Node;
 use crate::rows::AskedRow;
 use crate::told::StepRows;
-use rbac_model::{Grant, Policy, SourceRole, naming_place};
-use rbac_subjects::SubjectIndex;
+use rbac_model::{Grant, Policy, SourceRole};
+use rbac_subjects::{SubjectIndex, SubjectPlaces};
 use rbac_terms::{ClusterRole, Principal, Role, Rules, Word};
 use std::alloc::{AllocError, Global};
 
@@ -43,18 +43,20 @@ pub(crate) fn reason_of<'p>(
     alloc: Global,
     policy: &'p Policy,
     index: &SubjectIndex<'p>,
+    subjects: &SubjectPlaces<'p>,
     from: Node<'p>,
     aim: Aim<'_>,
 ) -> Result<Option<Reason<'p>>, AllocError>
     requires policy { IsPolicy policy.now }
     requires index { index.now ≡ policy.now }
+    requires subjects { subjects.now ≡ policy.now }
     requires role { HasItsRole policy.now.held (node_of from) }
     ensures { IfOk result (λ r. MatchOption r
         (¬ Attains policy.now (node_of from.entry) (aim_of aim.entry))
         (λ r. IsReason policy.now (node_of from.entry) (aim_of aim.entry) (reason_view r))) }
 {
     match from {
-        Node::Somebody(who) => Ok(by_grant(policy, index, aim, who)),
+        Node::Somebody(who) => Ok(by_grant(policy, index, subjects, aim, who)),
         Node::ClusterRole(role, scope) => by_cluster_role(alloc, policy, aim, role, scope),
         Node::Role(role) => Ok(by_role(policy, aim, role)),
         Node::Everything(_) => Ok(Some(Reason::All)),
@@ -68,6 +70,7 @@ pub(crate) fn reason_by<'p>(
     alloc: Global,
     policy: &'p Policy,
     index: &SubjectIndex<'p>,
+    subjects: &SubjectPlaces<'p>,
     from: Node<'p>,
     numbers: &[u32],
     rows: &StepRows,
@@ -75,6 +78,7 @@ pub(crate) fn reason_by<'p>(
 ) -> Result<Option<Reason<'p>>, AllocError>
     requires policy { IsPolicy policy.now }
     requires index { index.now ≡ policy.now }
+    requires subjects { subjects.now ≡ policy.now }
     requires role { HasItsRole policy.now.held (node_of from) }
     requires within { All (λ n. n < length policy.now.grants) numbers.now }
     ensures { (steps : List Step) → Contains steps rows.now
@@ -85,8 +89,15 @@ pub(crate) fn reason_by<'p>(
         (reason_view r))) }
 {
     match from {
-        Node::Somebody(who) => by_numbers(alloc, policy, numbers, rows, who, to),
-        _ => reason_of(alloc, policy, index, from, Aim::TakeOver(rows, to)),
+        Node::Somebody(who) => by_numbers(alloc, policy, subjects, numbers, rows, who, to),
+        _ => reason_of(
+            alloc,
+            policy,
+            index,
+            subjects,
+            from,
+            Aim::TakeOver(rows, to),
+        ),
     }
 }
 
@@ -94,12 +105,14 @@ pub(crate) fn reason_by<'p>(
 fn by_numbers<'p>(
     alloc: Global,
     policy: &'p Policy,
+    subjects: &SubjectPlaces<'p>,
     numbers: &[u32],
     rows: &StepRows,
     who: &Principal,
     to: Node<'_>,
 ) -> Result<Option<Reason<'p>>, AllocError>
     requires policy { IsPolicy policy.now }
+    requires subjects { subjects.now ≡ policy.now }
     requires within { All (λ n. n < length policy.now.grants) numbers.now }
     ensures { (steps : List Step) → Contains steps rows.now
         → AreTakingNumbers policy.now steps who.now numbers.now
@@ -112,7 +125,7 @@ fn by_numbers<'p>(
     let Some(no) = least_taking(policy, numbers, asked.as_slice()) else {
         return Ok(None);
     };
-    Ok(by_number(policy, who, no))
+    Ok(by_number(policy, subjects, who, no))
 }
 
 // The least of these numbers whose grant allows a request of one of these rows.
@@ -172,29 +185,37 @@ fn is_less(number: u32, other: Option<u32>) -> bool
 fn by_grant<'p>(
     policy: &'p Policy,
     index: &SubjectIndex<'p>,
+    subjects: &SubjectPlaces<'p>,
     aim: Aim<'_>,
     who: &Principal,
 ) -> Option<Reason<'p>>
     requires policy { IsPolicy policy.now }
     requires index { index.now ≡ policy.now }
+    requires subjects { subjects.now ≡ policy.now }
     ensures { MatchOption result
         (¬ Attains policy.now (Somebody who.now) (aim_of aim.entry))
         (λ r. IsReason policy.now (Somebody who.now) (aim_of aim.entry) (reason_view r)) }
 {
     let no = first_serving(policy, index, who, aim)?;
-    by_number(policy, who, no)
+    by_number(policy, subjects, who, no)
 }
 
 // The grant with this number as a reason, with the first subject of its binding that names the
 // principal.
-fn by_number<'p>(policy: &'p Policy, who: &Principal, no: u32) -> Option<Reason<'p>>
-    requires { no < length policy.now.grants }
+fn by_number<'p>(
+    policy: &'p Policy,
+    subjects: &SubjectPlaces<'p>,
+    who: &Principal,
+    no: u32,
+) -> Option<Reason<'p>>
+    requires subjects { subjects.now ≡ policy.now }
+    requires within { no < length policy.now.grants }
     ensures { (aim : AimView) (g : GrantView)
         → IsFirstAt (GrantServes aim who.now) policy.now.grants no g
         → IsSomeAnd result (λ r. IsReason policy.now (Somebody who.now) aim (reason_view r)) }
 {
     let grant = policy.grant(no);
-    let subject = naming_place(grant.binding, who)?;
+    let subject = subjects.naming(grant.binding_place, grant.binding, who)?;
     Some(Reason::Grant(grant, subject))
 }
 

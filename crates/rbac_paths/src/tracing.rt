@@ -28,7 +28,7 @@ use crate::seeking::{Sought, places_of};
 use crate::told::{StepRows, first_told};
 use rbac_model::Policy;
 use rbac_steps::Step;
-use rbac_subjects::SubjectIndex;
+use rbac_subjects::{SubjectIndex, SubjectPlaces};
 use rbac_ways::{Reached, Stop, shortest_ways};
 use std::alloc::{AllocError, Global};
 
@@ -94,6 +94,7 @@ pub(crate) fn traced<'p>(
         found.items) }
 {
     let all = rule_of_all(alloc)?;
+    let subjects = SubjectPlaces::of(alloc, policy)?;
     let stops = reached.stops.as_slice();
     let mut known = Deciding::none(alloc, nodes.len());
     let mut lines = Vec::new(alloc);
@@ -108,7 +109,7 @@ pub(crate) fn traced<'p>(
             known = deciding_at(alloc, &*policy, &*index, &all, made, from, taker)?;
         }
         let line = line_at(
-            alloc, policy, index, steps, nodes, &known, direction, *place, *stop,
+            alloc, policy, index, &subjects, steps, nodes, &known, direction, *place, *stop,
         )?;
         if let Some(line) = line {
             lines.push(line)?;
@@ -139,6 +140,7 @@ fn line_at<'p>(
     alloc: Global,
     policy: &'p Policy,
     index: &SubjectIndex<'p>,
+    subjects: &SubjectPlaces<'p>,
     steps: &[StepRows],
     nodes: &[Node<'p>],
     known: &Deciding<'_>,
@@ -148,6 +150,7 @@ fn line_at<'p>(
 ) -> Result<Option<Way<'p>>, AllocError>
     requires policy { IsPolicy policy.now }
     requires index { index.now ≡ policy.now }
+    requires subjects { subjects.now ≡ policy.now }
     requires held { All (HasItsRole policy.now.held) (map node_of nodes.now) }
     requires known { IsDeciding policy.now steps.now (map node_of nodes.now) known.now }
     requires place { known.now.place ≡ taker direction stop.before place }
@@ -160,7 +163,8 @@ fn line_at<'p>(
         let Direction::Back(access) = direction else {
             return Ok(None);
         };
-        let Some(reason) = reason_of(alloc, policy, index, node, Aim::Access(access))? else {
+        let Some(reason) = reason_of(alloc, policy, index, subjects, node, Aim::Access(access))?
+        else {
             return Ok(None);
         };
         return Ok(Some(Way {
@@ -173,7 +177,8 @@ fn line_at<'p>(
     let before = nodes[stop.before];
     let from = direction.taker(before, node);
     let to = direction.taker(node, before);
-    let Some((step, reason)) = first_step(alloc, policy, index, steps, from, known, to)? else {
+    let Some((step, reason)) = first_step(alloc, policy, index, subjects, steps, from, known, to)?
+    else {
         return Ok(None);
     };
     let next = Some(Next { node: before, step });
@@ -192,6 +197,7 @@ fn first_step<'p>(
     alloc: Global,
     policy: &'p Policy,
     index: &SubjectIndex<'p>,
+    subjects: &SubjectPlaces<'p>,
     steps: &[StepRows],
     from: Node<'p>,
     known: &Deciding<'_>,
@@ -199,6 +205,7 @@ fn first_step<'p>(
 ) -> Result<Option<(Step, Reason<'p>)>, AllocError>
     requires policy { IsPolicy policy.now }
     requires index { index.now ≡ policy.now }
+    requires subjects { subjects.now ≡ policy.now }
     requires role { HasItsRole policy.now.held (node_of from) }
     requires known { DecidesOf policy.now steps.now (node_of from) known.now }
     ensures { IfOk result (λ told. MatchOption told
@@ -211,7 +218,7 @@ fn first_step<'p>(
         return Ok(None);
     };
     let numbers = known.numbers.as_slice();
-    let Some(reason) = reason_by(alloc, policy, index, from, numbers, rows, to)? else {
+    let Some(reason) = reason_by(alloc, policy, index, subjects, from, numbers, rows, to)? else {
         return Ok(None);
     };
     Ok(Some((rows.step(), reason)))

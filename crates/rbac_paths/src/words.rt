@@ -22,7 +22,7 @@ use crate::holding::Holding;
 use crate::rows::{counts_there, has_name, is_kube_system};
 use crate::rule_takeovers::RuleTakeovers;
 use crate::table::{Names, Over};
-use crate::takeover::{Takeover, takeovers_of};
+use crate::takeover::{Takeover, is_over_nobody, takeovers_of};
 use crate::taking::{account_parts, is_bootstrapper, is_user};
 use crate::told::StepRows;
 use rbac_model::Policy;
@@ -212,6 +212,10 @@ impl Takeover {
         ensures { OnOk result (AddsWhere (LetsWord self.now (option_copied home.entry) rule.now)
             words.old words.new) }
     {
+        // Nobody is taken over by these words, however many names the rule lists.
+        if is_over_nobody(self.over) {
+            return Ok(());
+        }
         if self.lets_any(rule) {
             return self.add_word(alloc, home, None, words);
         }

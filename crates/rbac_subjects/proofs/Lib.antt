@@ -6,6 +6,7 @@ pub mod LeastLemmas
 pub mod LivingLemmas
 pub mod NamedLemmas
 pub mod NamespaceLemmas
+pub mod NamingLemmas
 pub mod NextRunLemmas
 pub mod PrincipalLemmas
 pub mod TakingLemmas

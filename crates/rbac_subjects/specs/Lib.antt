@@ -2,3 +2,4 @@ pub mod Bound
 pub mod Keyed
 pub mod Least
 pub mod Living
+pub mod Naming

@@ -11,6 +11,7 @@ mod named_places;
 mod principal_keys;
 mod subject_index;
 mod subject_keys;
+mod subject_places;
 mod subject_principals;
 
 pub use fault::IndexFault;
@@ -18,3 +19,4 @@ pub use first_runs::{FirstRuns, Run};
 pub use least_places::MOST_KEPT as MOST_RUNS;
 pub use live_bindings::{cluster_wide, live_role_bindings};
 pub use subject_index::SubjectIndex;
+pub use subject_places::SubjectPlaces;

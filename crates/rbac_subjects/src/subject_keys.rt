@@ -59,7 +59,7 @@ fn push_keys(
     Ok(())
 }
 
-fn cmp_keyed(a: &Keyed, b: &Keyed) -> Ordering
+pub(crate) fn cmp_keyed(a: &Keyed, b: &Keyed) -> Ordering
     ensures { result ≡ keyed_cmp a.now b.now }
 {
     match a.key.cmp(&b.key) {

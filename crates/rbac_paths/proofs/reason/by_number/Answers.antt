@@ -1,10 +1,17 @@
-use Rattle.std.proofs.Common.{◌≡◌, ◌∙◌, subst, sym}
+use Rattle.std.proofs.Common.{◌≡◌, ◌∙◌, ap, subst, sym}
+use Rattle.std.specs.Prelude.{Some}
 use Rattle.std.proofs.lemmas.Option.{same_Some}
 use Rattle.rbac_model.specs.Lists.{IsFirstAt}
 use Rattle.rbac_model.specs.Policies.{BindingNames, GrantView}
 use Rattle.rbac_model.specs.Sources.{grant_of}
 use Rattle.rbac_paths.specs.Aims.{GrantServes}
 use Rattle.rbac_paths.proofs.reason.by_number.Goals as goal
+
+pub naming-requires : goal.naming-requires
+naming-requires c =
+    let of = c.grant-grant.ensures.binding in
+    let same : of.0 ≡ grant_of c.grant-grant.result = same_Some of.0 (grant_of c.grant-grant.result) (sym of.1 ∙ c.grant-grant.ensures.grant) in
+    rw c.requires.subjects (of.2 ∙ ap (λ (g : GrantView). Some g.binding) same)
 
 pub returns-in_err-subject : goal.returns-in_err-subject
 returns-in_err-subject c aim first is =

@@ -16,8 +16,8 @@ returns-in_default c steps among are =
     none_taking c.args.policy.now c.requires.policy c.args.who.now steps step among c.args.numbers.now are y
     (matched_none c.least_taking.result _ _ c.in_default.not-Some (c.least_taking.ensures step y asked))
 
-pub by_number-requires : goal.by_number-requires
-by_number-requires c =
+pub by_number-requires-clause-within : goal.by_number-requires-clause-within
+by_number-requires-clause-within c =
     let step = c.args.rows.now in
     let y = node_of c.args.to in
     let asked = subst (λ (rows : List AskedRowView). AreAskedBy step y rows) (sym c.as_slice.ensures.value) c.in_ok-asked.ensures in
