@@ -1,7 +1,9 @@
 -- The lines of holders: each holder has one line, and no other.
-use Rattle.std.proofs.Common.{◌≡◌, ◌∙◌, ℕ, ◌<◌, ◌≤◌, Bool, true, false, List, [], ◌∷◌, length, get_or, drop, drop-cons, add-one, ◌+◌, Contains, ap, sym, subst, refl, arith, suc, zero, ◌⊎◌, inl, inr}
-use Rattle.std.specs.Prelude.{◌↔◌, Option, Some, None, Any, IsTrue, MatchOption, slice_get}
+use Rattle.std.proofs.Common.{◌≡◌, ◌∙◌, ℕ, ◌<◌, ◌≤◌, Bool, true, false, List, [], ◌∷◌, ◌++◌, length, get_or, drop, drop-cons, add-one, ◌+◌, Contains, ap, sym, subst, refl, arith, suc, zero, ◌⊎◌, inl, inr}
+use Rattle.std.specs.Prelude.{◌↔◌, AllPairs, Option, Some, None, Any, IsTrue, MatchOption, slice_get}
 use Rattle.std.proofs.lemmas.Bool.{cases_eq}
+use Rattle.std.proofs.lemmas.List.{drop_all}
+use Rattle.std.proofs.lemmas.List.Elements.{Contains-append_cases}
 use Rattle.std.proofs.lemmas.Option.{same_Some, slice_get_within, slice_get-get_or, get_or_from_slice_get}
 use Rattle.rbac_terms.specs.Text.{Text}
 use Rattle.rbac_terms.specs.Targets.{What}
@@ -18,7 +20,10 @@ use Rattle.rbac_model.specs.Sources.{source_of}
 use Rattle.rbac_model.proofs.BindingPlaces.{one_binding_place, of_some_binding, grant_of_rule}
 use Rattle.rbac_model.proofs.GrantNumbers.{grant_by}
 use Rattle.rbac_model.proofs.OneList.{one_rules_for}
+use Rattle.rbac_groups.specs.declared.membership.Membership.{Membership}
 use Rattle.rbac_index.specs.Deciding.{AllowsOf, IsFirstAllowing, NoneAllowing}
+use Rattle.rbac_index.specs.Holding.{IsEarlier}
+use Rattle.rbac_members.specs.Members.{AreHoldersAndMembers, AreMembers}
 use Rattle.rbac_terms.specs.declared.scope.Scope.{Scope}
 use Rattle.rbac_terms.specs.declared.scope.Scope.TheVariants.{Namespace}
 use Rattle.rbac_index.specs.WhoCan.{HoldsAt, IsHolderBy, IsListedHolder, AreListedHolders}
@@ -160,32 +165,62 @@ module _ (p : PolicyView) (ok : IsPolicy p) (verb : Text) (t : RequestedView) wh
       let of = grant_of_rule p ok x.binding_place a.0 brings.0 any.1 a.2 brings.1 (any.0, any.2, any.3) in
       least (AllowsOf p verb t x.binding_place) (length p.grants) (allows_decided x.binding_place) of.0 (slice_get_within p.grants of.0 (grant_by a.0 any.1) of.1) (of.2, (grant_by a.0 any.1, of.1, any.4))
 
-  line_of : (scope : Scope) (why : Bool) (x : HolderView) → IsHolderBy p.held scope verb t x → (line : Text) × IsHolderLine p why verb t x line
-  line_of scope false x holder = (holder_text x.key x.binding, refl)
-  line_of scope true x holder =
-      let first = first_of scope x holder.1 in
+  -- some rule of its binding allows what is requested
+  abbrev IsAllowedBy : HolderView → Type 0
+  IsAllowedBy x = (n : ℕ) × IsFirstAllowing p verb t x.binding_place n
+
+  line_of : (why : Bool) (x : HolderView) → IsAllowedBy x → (line : Text) × IsHolderLine p why verb t x line
+  line_of false x first = (holder_text x.key x.binding, refl)
+  line_of true x first =
       let g = first.1.0.0.0 in (
         holder_why_text x.key g.binding g.rule.source g.rule.place x.subject_place,
         (g, (first.0, first.1, first.1.0.0.1), refl),
       )
 
-  lines_of : (scope : Scope) (why : Bool) (xs : List HolderView) → ((x : HolderView) → Contains xs x → IsHolderBy p.held scope verb t x) → (lines : List Text) × AreHolderLines p why verb t xs lines
-  lines_of scope why [] all = ([], refl)
-  lines_of scope why (x ∷ xs) all =
-      let line = line_of scope why x (all x (0, omega arith, refl)) in
-      let rest = lines_of scope why xs (λ y w. all y (suc w.0, omega (arith, w.1), w.2)) in
+  lines_of : (why : Bool) (xs : List HolderView) → ((x : HolderView) → Contains xs x → IsAllowedBy x) → (lines : List Text) × AreHolderLines p why verb t xs lines
+  lines_of why [] all = ([], refl)
+  lines_of why (x ∷ xs) all =
+      let line = line_of why x (all x (0, omega arith, refl)) in
+      let rest = lines_of why xs (λ y w. all y (suc w.0, omega (arith, w.1), w.2)) in
       (line.0 ∷ rest.0, (line.0, rest.0, line.1, rest.1, refl))
+
+  -- the binding of a member is that of its group
+  member_allowed : (ms : List Membership) (every : Bool) (xs ys : List HolderView) → ((x : HolderView) → Contains xs x → IsAllowedBy x) → AreMembers ms every xs ys → (y : HolderView) → Contains ys y → IsAllowedBy y
+  member_allowed ms every xs ys all are y w =
+      let (k, x, lt, at, (group, user, key, given, e)) = ((are.exact y).0 w).0 in
+      subst IsAllowedBy (sym e) (all x (k, lt, at))
+
+  all_allowed : (ms : List Membership) (members every : Bool) (xs told : List HolderView) → ((x : HolderView) → Contains xs x → IsAllowedBy x) → AreHoldersAndMembers ms members every xs told → (y : HolderView) → Contains told y → IsAllowedBy y
+  all_allowed ms false every xs told all e y w = all y (subst (λ (zs : List HolderView). Contains zs y) e w)
+  all_allowed ms true every xs told all (ys, are, e) y w = elim (Contains-append_cases xs ys y (subst (λ (zs : List HolderView). Contains zs y) e w)) [
+    | inl v ↦ all y v
+    | inr v ↦ member_allowed ms every xs ys all are y v
+  ]
 
 -- ---- the line at a place
 
-pub line_at : (p : PolicyView) (why : Bool) (verb : Text) (t : RequestedView) (xs : List HolderView) (i : ℕ) (x : HolderView) (lines : List Text) → slice_get xs i ≡ Some x
-    → AreHolderLines p why verb t (drop i xs) lines
-    → (line : Text) × (rest : List Text) × IsHolderLine p why verb t x line × AreHolderLines p why verb t (drop (i + 1) xs) rest × (lines ≡ line ∷ rest)
-line_at p why verb t xs i x lines at are =
+pub line_at : (p : PolicyView) (why : Bool) (verb : Text) (t : RequestedView) (xs more : List HolderView) (i : ℕ) (x : HolderView) (lines : List Text) → slice_get xs i ≡ Some x
+    → AreHolderLines p why verb t (drop i xs ++ more) lines
+    → (line : Text) × (rest : List Text) × IsHolderLine p why verb t x line × AreHolderLines p why verb t (drop (i + 1) xs ++ more) rest × (lines ≡ line ∷ rest)
+line_at p why verb t xs more i x lines at are =
     let lt : i < length xs = slice_get_within xs i x at in
     let e : get_or xs i x ≡ x = get_or_from_slice_get xs i x x at in
     let here : drop i xs ≡ x ∷ drop (i + 1) xs = rw (add-one, drop-cons xs i x lt, e) refl in
-    subst (λ (ys : List HolderView). AreHolderLines p why verb t ys lines) here are
+    subst (λ (ys : List HolderView). AreHolderLines p why verb t (ys ++ more) lines) here are
+
+-- after the holders come the members
+module _ (p : PolicyView) (why : Bool) (verb : Text) (t : RequestedView) (xs more : List HolderView) (i : ℕ) (lines : List Text) (all : length xs ≤ i) (are : AreHolderLines p why verb t (drop i xs ++ more) lines) where
+  of_more : AreHolderLines p why verb t more lines
+  of_more = subst (λ (ys : List HolderView). AreHolderLines p why verb t (ys ++ more) lines) (drop_all i xs all) are
+
+  pub line_of_more : (x : HolderView) (rest : List HolderView) → more ≡ x ∷ rest
+      → (line : Text) × (others : List Text) × IsHolderLine p why verb t x line × AreHolderLines p why verb t (drop i xs ++ rest) others × (lines ≡ line ∷ others)
+  line_of_more x rest e =
+      let (line, others, is, left, f) = subst (λ (ys : List HolderView). AreHolderLines p why verb t ys lines) e of_more in
+      (line, others, is, subst (λ (ys : List HolderView). AreHolderLines p why verb t (ys ++ rest) others) (sym (drop_all i xs all)) left, f)
+
+  pub no_line_of_more : more ≡ [] → joined_lines lines ≡ []
+  no_line_of_more e = ap joined_lines (subst (λ (ys : List HolderView). AreHolderLines p why verb t ys lines) e of_more)
 
 -- who is listed is a holder by its binding
 by_binding : (h : Held) (scope : Scope) (every : Bool) (verb : Text) (t : RequestedView) (x : HolderView) → IsListedHolder h scope every verb t x → IsHolderBy h scope verb t x
@@ -202,23 +237,27 @@ scope_of_meant entries q anywhere false target namespace scope (inl a) is out gi
 scope_of_meant entries q anywhere false target namespace scope (inr a) is out given = inr (a.0, given refl ∙ ap (scope_given anywhere) a.1)
 
 -- the holders of what is asked have lines, which answer it
-pub answered : (l : LoadedView) (options : HolderOptions) (q : Question) (target : What) (namespace : Text) (outside : Bool) (scope : Scope) (xs : List HolderView) (listed : CatalogueView) (held shown : PolicyView)
-    → listed ≡ l.catalogue → held ≡ l.policy → shown ≡ l.policy → IsMeant listed.entries q target namespace → (IsTrue outside ↔ IsOutside listed.entries q target)
+pub answered : (l : LoadedView) (options : HolderOptions) (q : Question) (target : What) (namespace : Text) (outside : Bool) (scope : Scope) (xs ys : List HolderView) (ms : List Membership) (listed : CatalogueView) (held shown : PolicyView)
+    → ms ≡ l.memberships → (AllPairs IsEarlier xs → AreHoldersAndMembers ms options.members options.every xs (xs ++ ys)) → listed ≡ l.catalogue → held ≡ l.policy → shown ≡ l.policy → IsMeant listed.entries q target namespace → (IsTrue outside ↔ IsOutside listed.entries q target)
     → (outside ≡ true → scope ≡ Namespace namespace) → (outside ≡ false → scope ≡ scope_given options.anywhere namespace)
     → IsPolicy held → AreListedHolders held.held scope options.every q.verb (requested_meant options.any_name target) xs
-    → (lines : List Text) × AreHolderLines shown options.why q.verb (requested_meant options.any_name target) xs lines × Answers (Single l) (WhoCan options q) (joined_lines lines) Zero
-answered l options q target namespace outside scope xs listed held shown catalogue policy again meant is out given ok holders =
+    → (lines : List Text) × AreHolderLines shown options.why q.verb (requested_meant options.any_name target) (xs ++ ys) lines × Answers (Single l) (WhoCan options q) (joined_lines lines) Zero
+answered l options q target namespace outside scope xs ys ms listed held shown documents tells catalogue policy again meant is out given ok holders =
     let requested = requested_meant options.any_name target in
     let are = subst (λ (p : PolicyView). AreListedHolders p.held scope options.every q.verb requested xs) policy holders in
-    let lines = lines_of l.policy (subst IsPolicy policy ok) q.verb requested scope options.why xs (λ x w. by_binding l.policy.held scope options.every q.verb requested x ((are.exact x).0 w)) in
+    let told = subst (λ (ds : List Membership). AreHoldersAndMembers ds options.members options.every xs (xs ++ ys)) documents (tells are.ordered) in
+    let loaded = subst IsPolicy policy ok in
+    let firsts : (x : HolderView) → Contains xs x → (n : ℕ) × IsFirstAllowing l.policy q.verb requested x.binding_place n =
+    λ x w. first_of l.policy loaded q.verb requested scope x (by_binding l.policy.held scope options.every q.verb requested x ((are.exact x).0 w)).1 in
+    let lines = lines_of l.policy loaded q.verb requested options.why (xs ++ ys) (all_allowed l.policy loaded q.verb requested l.memberships options.members options.every xs (xs ++ ys) firsts told) in
     let place = scope_of_meant listed.entries q options.anywhere outside target namespace scope meant.1 is out given in (
       lines.0,
-      subst (λ (p : PolicyView). AreHolderLines p options.why q.verb requested xs lines.0) (sym again) lines.1,
+      subst (λ (p : PolicyView). AreHolderLines p options.why q.verb requested (xs ++ ys) lines.0) (sym again) lines.1,
       (
         target,
         scope,
         subst (λ (v : CatalogueView). IsTargetMeant v.entries q.asked target) catalogue meant.0,
         subst (λ (v : CatalogueView). IsScopeMeant v.entries q options.anywhere target scope) catalogue place,
-        (xs, lines.0, are, lines.1, refl, refl),
+        (xs, xs ++ ys, lines.0, are, told, lines.1, refl, refl),
       ),
     )

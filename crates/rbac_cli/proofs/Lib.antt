@@ -1,3 +1,4 @@
+pub mod GroupsGiven
 pub mod HolderLineLemmas
 pub mod LinesLemmas
 pub mod Loads

@@ -5,7 +5,7 @@ use Rattle.std.proofs.lemmas.List.{take-append-drop}
 use Rattle.std.specs.Prelude.{Option, Some, None, IfErr, IfOk, IfSome, IsOkAnd, Result, Ok, Err, MatchResult}
 use Rattle.rbac_manifest.specs.declared.fault.At.{At}
 use Rattle.rbac_manifest.specs.declared.fault.Cause.{Cause}
-use Rattle.rbac_manifest.specs.declared.fault.Cause.TheVariants.{NotJson, NotAnObject, BadVersion, BadMetadata, BadRule, BadRoleRef, BadSubject, BadSelector, BadCatalogue, BadUniverse, TooMany, NoMemory}
+use Rattle.rbac_manifest.specs.declared.fault.Cause.TheVariants.{NotJson, NotAnObject, BadVersion, BadMetadata, BadRule, BadRoleRef, BadSubject, BadSelector, BadCatalogue, BadUniverse, BadGroup, TooMany, NoMemory}
 use Rattle.rbac_manifest.specs.declared.fault.LoadFault.{LoadFault}
 use Rattle.rbac_model.specs.Policies.{PolicyView}
 use Rattle.rbac_model.specs.declared.objects.Object.{Object}
@@ -171,6 +171,7 @@ memory_or (BadSubject n) = inr (λ e. cc)
 memory_or BadSelector = inr (λ e. cc)
 memory_or BadCatalogue = inr (λ e. cc)
 memory_or BadUniverse = inr (λ e. cc)
+memory_or BadGroup = inr (λ e. cc)
 memory_or TooMany = inr (λ e. cc)
 memory_or NoMemory = inl refl
 

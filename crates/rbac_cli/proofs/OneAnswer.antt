@@ -23,7 +23,12 @@ use Rattle.rbac_universe.specs.Sets.{AreSets}
 use Rattle.rbac_universe.proofs.Flattened.{contains_map, map_contains, pairs_map}
 use Rattle.rbac_universe.proofs.OneMore.{as_any}
 use Rattle.rbac_universe.proofs.OneUniverse.{one_sets}
+use Rattle.rbac_groups.specs.Memberships.{with_memberships}
+use Rattle.rbac_groups.specs.declared.membership.Membership.{Membership}
 use Rattle.rbac_index.proofs.ListedLemmas.{one_listed}
+use Rattle.rbac_members.specs.Members.{AreHoldersAndMembers}
+use Rattle.rbac_members.proofs.OneMembers.{one_members}
+use Rattle.rbac_model.specs.Holders.{HolderView}
 use Rattle.rbac_manifest.specs.Load.{LoadedView}
 use Rattle.rbac_lint.proofs.OneLines.{one_wanted}
 use Rattle.rbac_diff.specs.Requests.{RequestView}
@@ -47,6 +52,7 @@ use Rattle.rbac_question.specs.declared.command.HolderOptions.{HolderOptions}
 use Rattle.rbac_question.specs.declared.command.MatrixOptions.{MatrixOptions}
 use Rattle.rbac_question.specs.declared.command.Question.{Question}
 use Rattle.rbac_question.specs.declared.path_end.PathEnd.{PathEnd}
+use Rattle.rbac_cli.specs.Groups.{named_in}
 use Rattle.rbac_cli.specs.HolderLines.{AreHolderLines, joined_lines}
 use Rattle.rbac_cli.specs.Out.{Answers, AreListed, IsAllowed, IsDenied, rules_text, findings_text, findings_status, wanted_meant, powers_text, paths_status, paths_text, ways_text, changes_text, changes_status, line_unless, unused_status, unused_text}
 use Rattle.rbac_cli.specs.MatrixPage.{AreRows, AreListedRows}
@@ -237,11 +243,15 @@ one_listed_lines : (options : MatrixOptions) (held : Held) (lists : UniverseList
 one_listed_lines options held lists u v all others m n (rows, x, e) (those, y, f) =
     ap (map line_of) e ∙ listed_alike options.once rows those (one_row_lines options.every held lists u v rows those m n x y) ∙ sym (ap (map line_of) f)
 
--- ---- the holders are one list
+-- ---- the holders are one list, and so are they with the members of groups
+
+one_with_members : (ms : List Membership) (members every : Bool) (xs all others : List HolderView) → AreHoldersAndMembers ms members every xs all → AreHoldersAndMembers ms members every xs others → all ≡ others
+one_with_members ms false every xs all others a b = a ∙ sym b
+one_with_members ms true every xs all others (ys, are, e) (zs, these, f) = e ∙ ap (λ (ks : List HolderView). xs ++ ks) (one_members ms every xs ys zs are these) ∙ sym f
 
 one_holders_text : (l : LoadedView) (options : HolderOptions) (q : Question) (text other : List ℕ) (status ending : Status)
     → Answers (Single l) (WhoCan options q) text status → Answers (Single l) (WhoCan options q) other ending → (text ≡ other) × (status ≡ ending)
-one_holders_text l options q text other status ending (t, v, target, meant, (xs, lines, a, these, e, s)) (u, w, means, meaning, (ys, those, b, them, f, z)) =
+one_holders_text l options q text other status ending (t, v, target, meant, (xs, all, lines, a, told, these, e, s)) (u, w, means, meaning, (ys, others, those, b, tell, them, f, z)) =
     let p = l.policy in
     let every = options.every in
     let any_name = options.any_name in
@@ -251,8 +261,9 @@ one_holders_text l options q text other status ending (t, v, target, meant, (xs,
     let r = requested_meant any_name u in
     let here = subst (λ x. AreListedHolders p.held x every q.verb r xs) place (subst (λ x. AreListedHolders p.held v every q.verb (requested_meant any_name x) xs) same a) in
     let one = one_listed p.held w every q.verb r xs ys here b in
-    let lined = subst (λ hs. AreHolderLines p options.why q.verb r hs lines) one (subst (λ x. AreHolderLines p options.why q.verb (requested_meant any_name x) xs lines) same these) in
-    (e ∙ ap joined_lines (one_holder_lines p q.verb r options.why ys lines those lined them) ∙ sym f, s ∙ sym z)
+    let shown = one_with_members l.memberships options.members every ys all others (subst (λ hs. AreHoldersAndMembers l.memberships options.members every hs all) one told) tell in
+    let lined = subst (λ hs. AreHolderLines p options.why q.verb r hs lines) shown (subst (λ x. AreHolderLines p options.why q.verb (requested_meant any_name x) all lines) same these) in
+    (e ∙ ap joined_lines (one_holder_lines p q.verb r options.why others lines those lined them) ∙ sym f, s ∙ sym z)
 
 -- the one target and namespace that are meant aren't both allowed and denied
 not_both : (held : Held) (entries : List Entry) (who : Who) (q : Question) → IsAllowed held entries who q → IsDenied held entries who q → ⊥
@@ -289,10 +300,10 @@ least_alike : (name user : Text) (a b : LeastPolicy) → HaveSameRules a b → l
 least_alike name user a b (everywhere, namespaces) = rw (everywhere, namespaces) refl
 
 module _ (powers_one : PowersOne) (paths_one : PathsOne) (path_one : PathOne) (ways_one : WaysOne) (unused_one : UnusedOne) (least_one : LeastOne) where
-  one_listing : (l : LoadedView) (who : Who) (steps : List Step) (to : Option PathEnd) (xs listed others : List PathView) → ArePathsOf l.policy l.principals steps who xs
+  one_listing : (l : LoadedView) (who : Who) (steps : List Step) (to : Option PathEnd) (xs listed others : List PathView) → ArePathsOf l.policy (named_in l) steps who xs
       → AreListed (Somebody who) to xs listed → AreListed (Somebody who) to xs others → listed ≡ others
   one_listing l who steps None xs listed others are e f = e ∙ sym f
-  one_listing l who steps (Some to) xs listed others are is too = path_one l.policy l.principals steps who to.what to.namespace xs listed others are is too
+  one_listing l who steps (Some to) xs listed others are is too = path_one l.policy (named_in l) steps who to.what to.namespace xs listed others are is too
 
   -- logs with the same requests have one answer
   pub one_unused : (l : LoadedView) (log logged : List RequestView) (skip : Bool) (text other : List ℕ) (status ending : Status) → ((r : RequestView) → Contains log r ↔ Contains logged r)
@@ -310,22 +321,22 @@ module _ (powers_one : PowersOne) (paths_one : PathsOne) (path_one : PathOne) (w
   pub one_answer : (e : Exports) (action : Action) (text other : List ℕ) (status ending : Status) → Answers e action text status → Answers e action other ending
       → (text ≡ other) × (status ≡ ending)
   one_answer (Single l) (CanI who options q) text other status ending (inl (a, (r, is, e), s)) (inl (b, (o, are, f), t)) = (
-    e ∙ ap (λ (reason : List ℕ). line_unless options.quiet (codes "yes") ++ reason) (one_reason l.policy l.catalogue.entries who q r o options.quiet options.why is are) ∙ sym f,
+    e ∙ ap (λ (reason : List ℕ). line_unless options.quiet (codes "yes") ++ reason) (one_reason l.policy l.catalogue.entries (with_memberships l.memberships who) q r o options.quiet options.why is are) ∙ sym f,
     s ∙ sym t,
   )
-  one_answer (Single l) (CanI who options q) text other status ending (inl a) (inr b) = absurd (not_both l.policy.held l.catalogue.entries who q a.0 b.0)
-  one_answer (Single l) (CanI who options q) text other status ending (inr a) (inl b) = absurd (not_both l.policy.held l.catalogue.entries who q b.0 a.0)
+  one_answer (Single l) (CanI who options q) text other status ending (inl a) (inr b) = absurd (not_both l.policy.held l.catalogue.entries (with_memberships l.memberships who) q a.0 b.0)
+  one_answer (Single l) (CanI who options q) text other status ending (inr a) (inl b) = absurd (not_both l.policy.held l.catalogue.entries (with_memberships l.memberships who) q b.0 a.0)
   one_answer (Single l) (CanI who options q) text other status ending (inr (a, (r, is, e), s)) (inr (b, (o, are, f), t)) = (
-    e ∙ ap (λ (lacking : List ℕ). line_unless options.quiet (codes "no") ++ lacking) (one_lacking l.policy l.catalogue.entries who q r o options.quiet options.why_not is are) ∙ sym f,
+    e ∙ ap (λ (lacking : List ℕ). line_unless options.quiet (codes "no") ++ lacking) (one_lacking l.policy l.catalogue.entries (with_memberships l.memberships who) q r o options.quiet options.why_not is are) ∙ sym f,
     s ∙ sym t,
   )
   one_answer (Single l) (WhoCan options q) text other status ending a b = one_holders_text l options q text other status ending a b
   one_answer (Single l) (WaysTo steps q) text other status ending (t, n, meant, (xs, are, e, s)) (u, m, means, (ys, those, f, z)) =
       let same = one_meant l.catalogue.entries q t u n m meant means in
-      let here = subst (λ (a : AccessView). AreWaysTo l.policy l.principals (vec_items steps) a xs) (ap₂ (access_meant q) same.0 same.1) are in
-      (e ∙ ap ways_text (ways_one l.policy l.principals (vec_items steps) (access_meant q u m) xs ys here those) ∙ sym f, s ∙ sym z)
+      let here = subst (λ (a : AccessView). AreWaysTo l.policy (named_in l) (vec_items steps) a xs) (ap₂ (access_meant q) same.0 same.1) are in
+      (e ∙ ap ways_text (ways_one l.policy (named_in l) (vec_items steps) (access_meant q u m) xs ys here those) ∙ sym f, s ∙ sym z)
   one_answer (Single l) (Rules who scope) text other status ending (xs, are, e, s) (ys, those, f, t) =
-      (e ∙ ap rules_text (one_rules who scope l.policy.grants xs ys are those) ∙ sym f, s ∙ sym t)
+      (e ∙ ap rules_text (one_rules (with_memberships l.memberships who) scope l.policy.grants xs ys are those) ∙ sym f, s ∙ sym t)
   one_answer (Single l) (Matrix options after limit) text other status ending (u, rows, m, x, e, s) (v, others, n, y, f, t) = (
     e ∙ one_matrix_text options.every after limit rows others (one_listed_lines options l.policy.held l.lists u v rows others m.sets n.sets x y) ∙ sym f,
     s ∙ sym t,
@@ -337,8 +348,9 @@ module _ (powers_one : PowersOne) (paths_one : PathsOne) (path_one : PathOne) (w
   one_answer (Single l) Powers text other status ending (xs, are, e, s) (ys, those, f, t) =
       (e ∙ ap powers_text (powers_one l.policy xs ys are those) ∙ sym f, s ∙ sym t)
   one_answer (Single l) (Paths who steps to) text other status ending (xs, listed, are, lists, e, s) (ys, others, those, list, f, t) =
-      let same = paths_one l.policy l.principals (vec_items steps) who xs ys are those in
-      let one = one_listing l who (vec_items steps) to ys listed others those (subst (λ (zs : List PathView). AreListed (Somebody who) to zs listed) same lists) list in
+      let given = with_memberships l.memberships who in
+      let same = paths_one l.policy (named_in l) (vec_items steps) given xs ys are those in
+      let one = one_listing l given (vec_items steps) to ys listed others those (subst (λ (zs : List PathView). AreListed (Somebody given) to zs listed) same lists) list in
       (e ∙ ap paths_text one ∙ sym f, s ∙ ap (paths_status to) one ∙ sym t)
   one_answer (Single l) (Diff n change) text other status ending a b = absurd a
   one_answer (Pair before after) (Diff n change) text other status ending (xs, are, e, s) (ys, those, f, t) =

@@ -12,13 +12,11 @@ use Rattle.rbac_catalogue.specs.declared.entry.Entry.{Entry}
 use Rattle.rbac_model.specs.declared.why.Why.{Why}
 use Rattle.rbac_index.specs.Deciding.{IsWhyShown}
 use Rattle.rbac_manifest.specs.Load.{LoadedView}
-use Rattle.rbac_question.specs.declared.command.Action.TheVariants.{CanI}
 use Rattle.rbac_question.specs.declared.command.Question.{Question}
 use Rattle.rbac_question.specs.declared.command.VerdictOptions.{VerdictOptions}
 use Rattle.rbac_cli.specs.Meant.{IsNamespaceMeant, IsMeant, IsOutside, request_meant}
-use Rattle.rbac_cli.specs.Out.{Answers, ComesAfterNo, ComesAfterYes, FollowsNo, IsWhyText, line_unless, word_line}
+use Rattle.rbac_cli.specs.Out.{ComesAfterNo, ComesAfterYes, FollowsNo, IsVerdict, IsWhyText, line_unless, word_line}
 use Rattle.rbac_cli.specs.declared.outcome.Status.TheVariants.{Zero, One}
-use Rattle.rbac_cli.specs.declared.exports.Exports.TheVariants.{Single}
 use Rattle.rbac_cli.specs.Verdicts.{yes_text, found_text}
 
 pub one_namespace : (entries : List Entry) (q : Question) (target : What) (n m : Text) → IsNamespaceMeant entries q target n → IsNamespaceMeant entries q target m → n ≡ m
@@ -43,14 +41,14 @@ module _ (l : LoadedView) (who : Who) (q : Question) (target : What) (namespace 
 
   -- the answer yes, and what comes after it
   pub verdict_yes : (options : VerdictOptions) (found : Why) → IsWhyShown l.policy who namespace q.verb target found → IsFirst l.policy.held who namespace q.verb target found.binding.now
-      → Answers (Single l) (CanI who options q) (yes_text options.quiet options.why found) Zero
+      → IsVerdict l who options q (yes_text options.quiet options.why found) Zero
   verdict_yes options found shown first =
       inl ((target, namespace, meant, allows_first l.policy.held who namespace q.verb target found.binding.now first), after_yes options.quiet options.why found shown, refl)
 
   -- the answer no, and what comes after it
   pub verdict_no : (options : VerdictOptions) (text lacking : Text) → (¬ Allows l.policy.held who namespace q.verb target)
       → ComesAfterNo l.policy l.catalogue.entries who options.quiet options.why_not q lacking → text ≡ line_unless options.quiet (codes "no") ++ lacking
-      → Answers (Single l) (CanI who options q) text One
+      → IsVerdict l who options q text One
   verdict_no options text lacking none after is = inr ((target, namespace, meant, none), (lacking, after, is), refl)
 
   -- what follows a no to the request comes after a no to the question

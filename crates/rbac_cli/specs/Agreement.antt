@@ -14,6 +14,7 @@ use Rattle.rbac_paths.specs.WaysTo.{AreWaysTo, WayView}
 use Rattle.rbac_steps.specs.declared.steps.Step.{Step}
 use Rattle.rbac_question.specs.declared.command.Question.{Question}
 use Rattle.rbac_question.specs.declared.path_end.PathEnd.{PathEnd}
+use Rattle.rbac_cli.specs.Groups.{named_in}
 use Rattle.rbac_cli.specs.Meant.{IsMeant, access_meant}
 use Rattle.rbac_cli.specs.Out.{paths_text, ways_text}
 use Rattle.rbac_cli.specs.TextLines.{lines_in}
@@ -28,10 +29,10 @@ pub record LinesAgree (l : LoadedView) (steps : List Step) (who : Who) (q : Ques
   pub namespace : Text
   pub meant : IsMeant l.catalogue.entries q target namespace
   pub paths : List PathView
-  pub are_paths : ArePathsOf l.policy l.principals steps who paths
+  pub are_paths : ArePathsOf l.policy (named_in l) steps who paths
   pub lines_of_paths : text ≡ paths_text paths
   pub ways : List WayView
-  pub are_ways : AreWaysTo l.policy l.principals steps (access_meant q target namespace) ways
+  pub are_ways : AreWaysTo l.policy (named_in l) steps (access_meant q target namespace) ways
   pub lines_of_ways : other ≡ ways_text ways
   pub agree : AgreeOn l.policy who (access_meant q target namespace) paths ways
 

@@ -1,6 +1,7 @@
 pub mod Agreement
 pub mod Ends
 pub mod Exports
+pub mod Groups
 pub mod HolderLines
 pub mod MatrixPage
 pub mod MatrixRows

@@ -37,9 +37,13 @@ use Rattle.rbac_question.specs.declared.command.Action.TheVariants.{Rules, Matri
 use Rattle.rbac_question.specs.declared.command.Action.TheVariants.{Powers, Paths, Diff, Unused}
 use Rattle.rbac_question.specs.declared.command.Action.TheVariants.{Least}
 use Rattle.rbac_question.specs.declared.command.Question.{Question}
+use Rattle.rbac_question.specs.declared.command.VerdictOptions.{VerdictOptions}
 use Rattle.rbac_question.specs.declared.path_end.PathEnd.{PathEnd}
 use Rattle.rbac_rules.specs.Effective.{RuleView, AreEffective}
+use Rattle.rbac_groups.specs.Memberships.{with_memberships}
 use Rattle.rbac_index.specs.WhoCan.{AreListedHolders}
+use Rattle.rbac_manifest.specs.Load.{LoadedView}
+use Rattle.rbac_members.specs.Members.{AreHoldersAndMembers}
 use Rattle.rbac_near.specs.Near.{AreNear, RequestView}
 use Rattle.rbac_near.specs.NearLines.{near_line}
 use Rattle.rbac_near.specs.declared.near.Near.{Near}
@@ -48,6 +52,7 @@ use Rattle.rbac_use.specs.Unused.{AreUnused}
 use Rattle.rbac_use.specs.UnusedTexts.{unused_line}
 use Rattle.rbac_use.specs.declared.least.Least.{Least as LeastPolicy}
 use Rattle.rbac_use.specs.declared.unused.Unused.{Unused as UnusedPart}
+use Rattle.rbac_cli.specs.Groups.{named_in}
 use Rattle.rbac_cli.specs.HolderLines.{AreHolderLines, joined_lines}
 use Rattle.rbac_cli.specs.declared.exports.Exports.{Exports}
 use Rattle.rbac_cli.specs.declared.exports.Exports.TheVariants.{Single, Pair, Used}
@@ -114,6 +119,21 @@ ComesAfterNo p entries who quiet why_not q text =
     × IsMeant entries q target namespace
     × ((is_namespaced ≡ true) ↔ (¬ IsOutside entries q target))
     × FollowsNo p (request_meant who q target namespace is_namespaced) quiet why_not text
+
+-- the verdict on whether `who` is allowed what the question asks: `yes` and 0, or `no` and 1
+-- (kubectl auth can-i)
+abbrev pub IsVerdict : LoadedView → Who → VerdictOptions → Question → Text → Status → Type 0
+IsVerdict l who options q text status =
+    (IsAllowed l.policy.held l.catalogue.entries who q
+    × ((reason : Text)
+    × ComesAfterYes l.policy l.catalogue.entries who options.quiet options.why q reason
+    × (text ≡ line_unless options.quiet (codes "yes") ++ reason))
+    × (status ≡ Zero))
+    ⊎ (IsDenied l.policy.held l.catalogue.entries who q
+    × ((lacking : Text)
+    × ComesAfterNo l.policy l.catalogue.entries who options.quiet options.why_not q lacking
+    × (text ≡ line_unless options.quiet (codes "no") ++ lacking))
+    × (status ≡ One))
 
 -- the line of a rule that a principal has
 abbrev pub effective_line : RuleView → Text
@@ -189,46 +209,40 @@ IsLeastText p log user names name text =
     (least : LeastPolicy) × IsLeastOf p log user names least × (text ≡ least_text name user least)
 
 -- the text and the status that an action means over what was loaded: `can-i` answers `yes` and 0,
--- or `no` and 1 (kubectl auth can-i); `who-can` answers a line for each holder, and 0, or with
--- `--indirect` a line for each node from which the given steps, or none, lead to one that allows
--- what is asked, and 0 (own); `rules` a line for each rule that the principal has, and 0 (own);
--- `matrix` a page of the rows that are listed over a universe of the lists, and 0 (own); `universe`
--- the Universe document of the lists, unless they have more resources than a universe may have
--- targets, and 0 (own); `lint` a line for each finding that is asked for, and 1 if there is one,
--- otherwise 0 (own); `powers` a line for each step that a user or a group can take, and 0 (own);
--- `paths` a line for each node that the principal comes to by the given steps, and 0, or with
--- `--to` a line for each step of the one path to TO, and 0, or nothing and 1 if no path leads there
--- (own); `diff` a line for each change from the first policy to the second, and 1 if there is one,
--- otherwise 0 (own); `unused` a line for each part of a binding that no request of the log used, and
--- 1 if there is one, otherwise 0 (own); `least` the document of the least policy of the user by the
--- requests of the log, and 0 (own)
+-- or `no` and 1 (kubectl auth can-i); `who-can` answers a line for each holder, with `--members`
+-- also for each other member of a group that is one, and 0, or with `--indirect` a line for each
+-- node from which the given steps, or none, lead to one that allows what is asked, and 0 (own);
+-- `rules` a line for each rule that the principal has, and 0 (own); `matrix` a page of the rows
+-- that are listed over a universe of the lists, and 0 (own); `universe` the Universe document of
+-- the lists, unless they have more resources than a universe may have targets, and 0 (own); `lint`
+-- a line for each finding that is asked for, and 1 if there is one, otherwise 0 (own); `powers` a
+-- line for each step that a user or a group can take, and 0 (own); `paths` a line for each node
+-- that the principal comes to by the given steps, and 0, or with `--to` a line for each step of the
+-- one path to TO, and 0, or nothing and 1 if no path leads there (own); `diff` a line for each
+-- change from the first policy to the second, and 1 if there is one, otherwise 0 (own); `unused` a
+-- line for each part of a binding that no request of the log used, and 1 if there is one, otherwise
+-- 0 (own); `least` the document of the least policy of the user by the requests of the log, and 0
+-- (own). Whoever `can-i`, `rules` and `paths` are about has the groups that documents give it, too
+-- (own)
 abbrev pub Answers : Exports → Action → List ℕ → Status → Type 0
 Answers (Single l) (CanI who options q) text status =
-    (IsAllowed l.policy.held l.catalogue.entries who q
-    × ((reason : Text)
-    × ComesAfterYes l.policy l.catalogue.entries who options.quiet options.why q reason
-    × (text ≡ line_unless options.quiet (codes "yes") ++ reason))
-    × (status ≡ Zero))
-    ⊎ (IsDenied l.policy.held l.catalogue.entries who q
-    × ((lacking : Text)
-    × ComesAfterNo l.policy l.catalogue.entries who options.quiet options.why_not q lacking
-    × (text ≡ line_unless options.quiet (codes "no") ++ lacking))
-    × (status ≡ One))
+    IsVerdict l (with_memberships l.memberships who) options q text status
 Answers (Single l) (WhoCan options q) text status =
     (target : What) × (scope : Scope) × IsTargetMeant l.catalogue.entries q.asked target
     × IsScopeMeant l.catalogue.entries q options.anywhere target scope
-    × ((xs : List HolderView) × (lines : List Text)
+    × ((xs all : List HolderView) × (lines : List Text)
     × AreListedHolders l.policy.held scope options.every q.verb
     (requested_meant options.any_name target) xs
-    × AreHolderLines l.policy options.why q.verb (requested_meant options.any_name target) xs lines
+    × AreHoldersAndMembers l.memberships options.members options.every xs all
+    × AreHolderLines l.policy options.why q.verb (requested_meant options.any_name target) all lines
     × (text ≡ joined_lines lines) × (status ≡ Zero))
 Answers (Single l) (WaysTo steps q) text status =
     (target : What) × (namespace : Text) × IsMeant l.catalogue.entries q target namespace
     × ((xs : List WayView)
-    × AreWaysTo l.policy l.principals (vec_items steps) (access_meant q target namespace) xs
+    × AreWaysTo l.policy (named_in l) (vec_items steps) (access_meant q target namespace) xs
     × (text ≡ ways_text xs) × (status ≡ Zero))
 Answers (Single l) (Rules who scope) text status =
-    (xs : List RuleView) × AreEffective l.policy who scope xs
+    (xs : List RuleView) × AreEffective l.policy (with_memberships l.memberships who) scope xs
     × (text ≡ rules_text xs) × (status ≡ Zero)
 Answers (Single l) (Matrix options after limit) text status =
     (u : UniverseView) × (rows : List RowView) × IsUniverseOf l.lists u
@@ -244,8 +258,9 @@ Answers (Single l) (Lint only skip_system) text status =
 Answers (Single l) Powers text status =
     (xs : List PowerView) × ArePowers l.policy xs × (text ≡ powers_text xs) × (status ≡ Zero)
 Answers (Single l) (Paths who steps to) text status =
-    (xs listed : List PathView) × ArePathsOf l.policy l.principals (vec_items steps) who xs
-    × AreListed (Somebody who) to xs listed
+    (xs listed : List PathView)
+    × ArePathsOf l.policy (named_in l) (vec_items steps) (with_memberships l.memberships who) xs
+    × AreListed (Somebody (with_memberships l.memberships who)) to xs listed
     × (text ≡ paths_text listed) × (status ≡ paths_status to listed)
 Answers (Pair before after) (Diff n change) text status =
     (xs : List ChangeView) × AreChanges before after xs

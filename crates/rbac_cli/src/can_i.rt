@@ -8,6 +8,7 @@ ghost use Rattle.rbac_cli.specs.Out.{Answers, AreNearLines, FollowsNo, line_unle
 ghost use Rattle.rbac_cli.specs.Verdicts.{yes_text};
 ghost use Rattle.rbac_cli.specs.declared.exports.Exports.TheVariants.{Single};
 
+use crate::groups::with_groups;
 use crate::meaning::meant_by;
 use crate::outcome::Status;
 use rbac_index::why_allowed;
@@ -45,10 +46,11 @@ pub(crate) fn verdict_of(
         (λ verdict. Answers (Single export.now)
         (CanI principal.now options question.now) verdict.text.items verdict.status) }
 {
+    let who = with_groups(alloc, export, principal)?;
     let meant = meant_by(alloc, export.catalogue(), question)?;
     let policy = export.policy();
     let request = Request {
-        who: principal,
+        who: &who,
         namespace: &meant.namespace,
         verb: &question.verb,
         target: &meant.target,
@@ -56,7 +58,7 @@ pub(crate) fn verdict_of(
     };
     let found = why_allowed(
         policy,
-        principal,
+        &who,
         &meant.namespace,
         &question.verb,
         &meant.target,

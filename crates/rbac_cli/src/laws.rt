@@ -2,24 +2,29 @@
 //! nothing; their contracts are the laws.
 
 ghost use Rattle.std.specs.Prelude.{◌≡◌, ◌↔◌, ◌++◌, ◌∷◌, [], Contains, List, ℕ};
-ghost use Rattle.std.specs.Prelude.{None, Result, Some, Vec, vec_items};
+ghost use Rattle.std.specs.Prelude.{None, Option, Result, Some, Vec, vec_items};
 ghost use Rattle.std.specs.Global.{Global};
 ghost use Rattle.rbac_terms.specs.Principals.{Who};
 ghost use Rattle.rbac_model.specs.Policies.{PolicyView};
+ghost use Rattle.rbac_groups.specs.Memberships.{with_memberships};
 ghost use Rattle.rbac_manifest.specs.Load.{IsLoaded, LoadedView};
 ghost use Rattle.rbac_document.specs.Document.{AreReadable};
 ghost use Rattle.rbac_streams.specs.Streams.{SinkView};
 ghost use Rattle.rbac_streams.specs.Taken.{Took};
 ghost use Rattle.rbac_question.specs.declared.command.Action.{Action};
 ghost use Rattle.rbac_steps.specs.declared.steps.Step.{Step};
-ghost use Rattle.rbac_question.specs.declared.command.Action.TheVariants.{Diff, Paths, Powers};
-ghost use Rattle.rbac_question.specs.declared.command.Action.TheVariants.{Universe, WaysTo};
+ghost use Rattle.rbac_question.specs.declared.command.Action.TheVariants.{CanI, Diff, Paths};
+ghost use Rattle.rbac_question.specs.declared.command.Action.TheVariants.{Powers, Universe, WaysTo};
+ghost use Rattle.rbac_question.specs.declared.command.Action.TheVariants.{Rules as ListsRules};
 ghost use Rattle.rbac_question.specs.declared.command.Change.{Change};
 ghost use Rattle.rbac_question.specs.declared.command.Question.{Question};
+ghost use Rattle.rbac_question.specs.declared.command.VerdictOptions.{VerdictOptions};
+ghost use Rattle.rbac_terms.specs.declared.scope.Scope.{Scope};
 ghost use Rattle.rbac_question.specs.declared.path_end.PathEnd.{PathEnd};
 ghost use Rattle.rbac_diff.specs.Requests.{AllowsNoMore, RequestView};
 ghost use Rattle.rbac_cli.specs.Agreement.{HasNoPowerLine, LinesAgree, PathAgrees};
 ghost use Rattle.rbac_cli.specs.Exports.{AreLoaded};
+ghost use Rattle.rbac_cli.specs.Groups.{named_alone, without_memberships};
 ghost use Rattle.rbac_cli.specs.Out.{Answers};
 ghost use Rattle.rbac_cli.specs.PlusLines.{HasPlusLine};
 ghost use Rattle.rbac_cli.specs.TakenBack.{HaveOneMatrix};
@@ -111,17 +116,17 @@ pub fn universes_are_taken_back()
     once_each_is_the_same_universe();
 }
 
-/// Of the principals that a binding or a ServiceAccount object names, `who-can --indirect` lists
-/// one exactly if it is allowed what is asked, or if `paths` for it, by the same steps and without
-/// given groups, lists a node that is allowed it. Its line has the least number of steps to such a
-/// node, or 0 if the principal itself is allowed it (own).
+/// Of the principals that a binding, a ServiceAccount object or a Group document names, `who-can
+/// --indirect` lists one exactly if it is allowed what is asked, or if `paths` for it, by the same
+/// steps and without groups given on the line, lists a node that is allowed it. Its line has the
+/// least number of steps to such a node, or 0 if the principal itself is allowed it (own).
 pub fn indirect_answers_agree_with_paths()
     ensures { (inputs : List (List ℕ)) (l : LoadedView) (who : Who) (steps others : Vec Step Global)
         (q : Question) (text other : List ℕ) (status ending : Status) → IsLoaded inputs l
-        → Contains l.principals who → vec_items steps ≡ vec_items others
+        → Contains (named_alone l) who → vec_items steps ≡ vec_items others
         → Answers (Single l) (Paths who steps None) text status
         → Answers (Single l) (WaysTo others q) other ending
-        → LinesAgree l (vec_items steps) who q text other }
+        → LinesAgree l (vec_items steps) (with_memberships l.memberships who) q text other }
 {
     ways_agree_with_paths();
 }
@@ -138,13 +143,33 @@ pub fn one_path_agrees_with_paths()
     paths_are_one();
 }
 
-/// If no line of `powers` has the key of a principal or of one of its groups, `paths` for this
-/// principal has no line, whichever steps count (own).
+/// If no line of `powers` has the key of a principal or of one of its groups, with those that
+/// documents give it, `paths` for this principal has no line, whichever steps count (own).
 pub fn no_paths_without_powers()
     ensures { (inputs : List (List ℕ)) (l : LoadedView) (who : Who) (steps : Vec Step Global)
         (text other : List ℕ) (status ending : Status) → IsLoaded inputs l
-        → Answers (Single l) Powers text status → HasNoPowerLine text who
+        → Answers (Single l) Powers text status
+        → HasNoPowerLine text (with_memberships l.memberships who)
         → Answers (Single l) (Paths who steps None) other ending → other ≡ [] }
 {
     paths_begin_with_powers();
 }
+
+/// The groups that documents give a user are as if they were given to it by `--group`: over an
+/// export, `can-i`, `rules` and `paths` answer of whoever they are about what they answer of the one
+/// with these groups over the same export without Group documents. For `paths`, the users whom the
+/// documents listed are still named there, and each has the groups that documents gave it (own).
+pub fn memberships_are_groups_given()
+    ensures verdicts { (l : LoadedView) (who : Who) (options : VerdictOptions) (q : Question)
+        (text : List ℕ) (status : Status) → Answers (Single l) (CanI who options q) text status
+        ↔ Answers (Single (without_memberships l))
+        (CanI (with_memberships l.memberships who) options q) text status }
+    ensures rules { (l : LoadedView) (who : Who) (scope : Scope) (text : List ℕ) (status : Status)
+        → Answers (Single l) (ListsRules who scope) text status
+        ↔ Answers (Single (without_memberships l))
+        (ListsRules (with_memberships l.memberships who) scope) text status }
+    ensures paths { (l : LoadedView) (who : Who) (steps : Vec Step Global) (to : Option PathEnd)
+        (text : List ℕ) (status : Status) → Answers (Single l) (Paths who steps to) text status
+        ↔ Answers (Single (without_memberships l))
+        (Paths (with_memberships l.memberships who) steps to) text status }
+{}

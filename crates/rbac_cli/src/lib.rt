@@ -7,6 +7,7 @@ mod answer;
 mod can_i;
 mod diff;
 mod exports;
+mod groups;
 mod laws;
 mod least;
 mod lines;
@@ -30,8 +31,8 @@ mod ways;
 mod who_can;
 
 pub use laws::{
-    answers_are_one, indirect_answers_agree_with_paths, no_paths_without_powers,
-    plus_lines_tell_all, runs_are_one, universes_are_taken_back,
+    answers_are_one, indirect_answers_agree_with_paths, memberships_are_groups_given,
+    no_paths_without_powers, plus_lines_tell_all, runs_are_one, universes_are_taken_back,
 };
 pub use outcome::{RunFault, Status};
 pub use rbac_command::{UsageFault, command_of};

@@ -10,15 +10,18 @@ ghost use Rattle.rbac_paths.specs.Nodes.{Somebody};
 ghost use Rattle.rbac_paths.specs.Paths.{ArePathsOf};
 ghost use Rattle.rbac_steps.specs.declared.steps.Step.{Step as PathStep};
 ghost use Rattle.rbac_question.specs.declared.command.Action.TheVariants.{Paths as ListsPaths};
+ghost use Rattle.rbac_cli.specs.Groups.{named_alone, named_in};
 ghost use Rattle.rbac_cli.specs.Out.{AreListed, paths_status};
 ghost use Rattle.rbac_cli.specs.Printing.{EndsPrinting};
 ghost use Rattle.rbac_cli.specs.declared.exports.Exports.TheVariants.{Single};
 
+use crate::groups::with_groups;
 use crate::lines::{HasLine, print_lines};
 use crate::outcome::Status;
 use crate::output::Output;
 use crate::stop::Stop;
 use rbac_document::principals_once_each;
+use rbac_groups::{each_with_memberships, users_listed};
 use rbac_manifest::Export;
 use rbac_paths::{Path, Step, path_to, paths, put_path};
 use rbac_question::PathEnd;
@@ -43,17 +46,11 @@ pub(crate) fn print_paths<W: Write + Drop>(
         → EndsPrinting W.contents output.old output.new (Single export.now)
         (ListsPaths principal.now chosen to.now) result }
 {
+    let who = with_groups(alloc, export, principal)?;
     let policy = export.policy();
     let index = SubjectIndex::build(alloc, policy)?;
     let principals = named_principals(alloc, export, &index)?;
-    let found = paths(
-        alloc,
-        policy,
-        &index,
-        principals.as_slice(),
-        principal,
-        steps,
-    )?;
+    let found = paths(alloc, policy, &index, principals.as_slice(), &who, steps)?;
     let listed = listed_of(alloc, found, to)?;
     let status = status_of(listed.as_slice(), to);
     print_lines(alloc, &mut listed.as_slice().iter(), status, output)
@@ -85,7 +82,8 @@ fn status_of(listed: &[Path<'_>], to: &Option<PathEnd>) -> Status
     }
 }
 
-/// The users and groups that bindings and ServiceAccount objects name, each once, in order of keys.
+/// The users and groups that bindings, ServiceAccount objects and Group documents name, each once, in
+/// order of keys, with the groups that documents give them.
 pub(crate) fn named_principals(
     alloc: Global,
     export: &Export,
@@ -94,10 +92,28 @@ pub(crate) fn named_principals(
     requires { index.now ≡ export.now.policy }
     ensures ordered { IfOk result (IsAscendingBy who_texts) }
     ensures exact { IfOk result
-        (λ each. (who : Who) → Contains each who ↔ Contains export.now.principals who) }
+        (λ given. (who : Who) → Contains given who ↔ Contains (named_in export.now) who) }
+{
+    let each = each_named(alloc, export, index)?;
+    let given = each_with_memberships(alloc, export.memberships(), each.into_vec())?;
+    Ok(Principals::from_vec(given))
+}
+
+// The users and groups that are named, each once, in order of keys, without given groups.
+fn each_named(
+    alloc: Global,
+    export: &Export,
+    index: &SubjectIndex<'_>,
+) -> Result<Principals, AllocError>
+    requires { index.now ≡ export.now.policy }
+    ensures ordered { IfOk result (IsAscendingBy who_texts) }
+    ensures exact { IfOk result
+        (λ each. (who : Who) → Contains each who ↔ Contains (named_alone export.now) who) }
 {
     let mut named = index.principals(alloc)?;
     named.append(&mut export.account_users(alloc)?.into_vec())?;
+    let mut listed = users_listed(alloc, export.memberships())?;
+    named.append(&mut listed)?;
     principals_once_each(Principals::from_vec(named))
 }
 

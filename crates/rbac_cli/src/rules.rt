@@ -5,6 +5,7 @@ ghost use Rattle.rbac_question.specs.declared.command.Action.TheVariants.{Rules 
 ghost use Rattle.rbac_cli.specs.Printing.{EndsPrinting};
 ghost use Rattle.rbac_cli.specs.declared.exports.Exports.TheVariants.{Single};
 
+use crate::groups::with_groups;
 use crate::lines::{Lines, print_lines};
 use crate::outcome::Status;
 use crate::output::Output;
@@ -28,8 +29,9 @@ pub(crate) fn print_rules<W: Write + Drop>(
     ensures { EndsPrinting W.contents output.old output.new (Single export.now)
         (ListsRules principal.now scope.now) result }
 {
+    let who = with_groups(alloc, export, principal)?;
     effective_rules_are_there();
-    let mut rules = effective_rules(export.policy(), principal, scope);
+    let mut rules = effective_rules(export.policy(), &who, scope);
     print_lines(alloc, &mut rules, Status::Zero, output)
 }
 

@@ -1,7 +1,8 @@
 //! Who may do something, as an answer.
 
-ghost use Rattle.std.specs.Prelude.{◌≡◌, ◌++◌, ◌-◌, true, false, List, IfOk, MatchOption};
-ghost use Rattle.std.specs.Prelude.{OnOk, drop, length};
+ghost use Rattle.std.specs.Prelude.{◌≡◌, ◌++◌, ◌+◌, ◌-◌, true, false, AllPairs, List, IfOk};
+ghost use Rattle.std.specs.Prelude.{MatchOption, OnOk, drop, length};
+ghost use Rattle.std.specs.Slice.Iter.{iter_rest};
 ghost use Rattle.rbac_terms.specs.Text.{Text};
 ghost use Rattle.rbac_terms.specs.declared.scope.Scope.TheVariants.{Namespace};
 ghost use Rattle.rbac_model.specs.Policies.{IsPolicy};
@@ -9,7 +10,9 @@ ghost use Rattle.rbac_model.specs.Sources.{source_of};
 ghost use Rattle.rbac_text.specs.Row.{holder_text};
 ghost use Rattle.rbac_text.specs.Why.{holder_why_text};
 ghost use Rattle.rbac_index.specs.HolderViews.{holder_shown, requested_of};
+ghost use Rattle.rbac_index.specs.Holding.{IsEarlier};
 ghost use Rattle.rbac_index.specs.WhoCan.{AreListedHolders};
+ghost use Rattle.rbac_members.specs.Members.{AreHoldersAndMembers};
 ghost use Rattle.rbac_question.specs.declared.command.Action.TheVariants.{WhoCan};
 ghost use Rattle.rbac_cli.specs.HolderLines.{AreHolderLines, IsHolderLine, joined_lines};
 ghost use Rattle.rbac_cli.specs.Meant.{requested_meant, scope_given};
@@ -21,18 +24,22 @@ use crate::meaning::meant_by;
 use crate::outcome::Status;
 use crate::output::Output;
 use crate::stop::Stop;
+use rbac_groups::Membership;
 use rbac_index::{Holder, Holders, Index, IndexFault, Requested, why_held};
 use rbac_manifest::Export;
+use rbac_members::{Member, members_of};
 use rbac_model::{Policy, Why};
 use rbac_question::{HolderOptions, Question};
 use rbac_terms::{Scope, Target, Word};
 use rbac_text::{put_holder, put_holder_why};
 use std::alloc::{AllocError, Global};
 use std::io::Write;
+use std::slice::Iter;
 
 /// Prints who is allowed what the question asks: a line for each holder, or with `every` for each
-/// binding that makes it a holder. With `why`, each line also explains why the holder's key holds
-/// the permission by that binding.
+/// binding that makes it a holder, and with `members` then for the members of groups that are
+/// holders. With `why`, each line also explains why the holder's key, or the group of the member,
+/// holds the permission by that binding.
 pub(crate) fn print_holders<W: Write + Drop>(
     alloc: Global,
     export: &Export,
@@ -50,6 +57,7 @@ pub(crate) fn print_holders<W: Write + Drop>(
     let policy = export.policy();
     let verb = &question.verb;
     let holders = holders_of(alloc, policy, &scope, options.every, verb, requested)?;
+    let members = members_told(alloc, export.memberships(), options, &holders)?;
     let asked = HolderQuestion {
         policy: export.policy(),
         verb,
@@ -61,6 +69,7 @@ pub(crate) fn print_holders<W: Write + Drop>(
         asked,
         holders: &holders,
         place: 0,
+        members: members.as_slice().iter(),
     };
     print_lines(alloc, &mut lines, Status::Zero, output)
 }
@@ -106,6 +115,23 @@ fn holders_of<'p>(
     index.holders(alloc, scope, every, verb, requested)
 }
 
+// The members of groups among the holders, if they are asked for.
+fn members_told<'h>(
+    alloc: Global,
+    memberships: &[Membership],
+    options: HolderOptions,
+    holders: &'h Holders<'_>,
+) -> Result<Vec<Member<'h>>, AllocError>
+    ensures { AllPairs IsEarlier holders.now → IfOk result
+        (λ members. AreHoldersAndMembers memberships.now options.members options.every holders.now
+        (holders.now ++ members.items)) }
+{
+    if !options.members {
+        return Ok(Vec::new(alloc));
+    }
+    members_of(alloc, memberships, options.every, holders)
+}
+
 // The question about holders, and whether to print why they hold the permission.
 #[derive(Clone, Copy)]
 struct HolderQuestion<'a> {
@@ -116,29 +142,35 @@ struct HolderQuestion<'a> {
     why: bool,
 }
 
-// The lines of holders from a place on.
+// The lines of holders from a place on, and then of members.
 #[derive(Drop)]
 struct HolderLines<'a, 'h, 'p> {
     asked: HolderQuestion<'a>,
     holders: &'h Holders<'p>,
     place: usize,
+    members: Iter<'h, Member<'h>>,
 }
 
 impl Lines for HolderLines<'_, '_, '_> {
     ghost are_left = { λ it text. (lines : List Text)
         × AreHolderLines it.asked.policy.now it.asked.why it.asked.verb.now
-        (requested_meant it.asked.any_name it.asked.target.now) (drop it.place it.holders.now) lines
+        (requested_meant it.asked.any_name it.asked.target.now)
+        (drop it.place it.holders.now ++ iter_rest it.members) lines
         × (text ≡ joined_lines lines) };
 
-    ghost most_left = { λ it. length it.holders.now - it.place };
+    ghost most_left = { λ it. length it.holders.now - it.place + length (iter_rest it.members) };
 
     fn put_next(&mut self, line: &mut Vec<u8>) -> Result<bool, AllocError> {
         let place = self.place;
-        if place >= self.holders.len() {
-            return Ok(false);
+        if place < self.holders.len() {
+            self.place = place + 1;
+            put_line(line, self.asked, self.holders.get(place))?;
+            return Ok(true);
         }
-        self.place = place + 1;
-        put_line(line, self.asked, self.holders.get(place))?;
+        let Some(member) = self.members.next() else {
+            return Ok(false);
+        };
+        put_line(line, self.asked, member.as_holder())?;
         Ok(true)
     }
 }

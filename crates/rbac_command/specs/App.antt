@@ -180,7 +180,7 @@ can_i_app =
     (with_rule (new_app (codes "can-i")) user_rule))) quiet_rule) why_rule) why_not_rule)
 
 -- who-can [-n NS] [-A] [--in-namespace] [--subresource S] [--anywhere] [--any-name] [--every]
--- [--why] [--indirect] [--steps STEPS] VERB TARGET [FILE]..
+-- [--members] [--why] [--indirect] [--steps STEPS] VERB TARGET [FILE]..
 abbrev pub who_can_app : App
 who_can_app =
     with_question (with_rule

@@ -13,11 +13,15 @@ anywhere_rule = flag_rule (codes "anywhere")
 abbrev pub any_name_rule : Rule
 any_name_rule = flag_rule (codes "any-name")
 
--- [--anywhere] [--any-name] [--every] [--why]
+-- `--members`
+abbrev pub members_rule : Rule
+members_rule = flag_rule (codes "members")
+
+-- [--anywhere] [--any-name] [--every] [--members] [--why]
 abbrev pub with_holder_options : App → App
 with_holder_options a =
-    with_rule (with_rule
-    (with_rule (with_rule a anywhere_rule) any_name_rule) every_rule) why_rule
+    with_rule (with_rule (with_rule
+    (with_rule (with_rule a anywhere_rule) any_name_rule) every_rule) members_rule) why_rule
 
 -- which of these options are given
 abbrev pub holder_options_in : List Row → HolderOptions
@@ -26,4 +30,5 @@ holder_options_in rows = record {
   every = has_flag (codes "every") rows;
   anywhere = has_flag (codes "anywhere") rows;
   any_name = has_flag (codes "any-name") rows;
+  members = has_flag (codes "members") rows;
 }

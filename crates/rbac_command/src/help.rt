@@ -43,6 +43,10 @@ With --why four fields follow the binding: ROLE, SOURCE, RULE and SUBJECT, as in
 is the binding's first rule that allows VERB TARGET, and SUBJECT its first subject that is the
 holder.
 
+--members adds lines for the users whom Group documents list in these groups: u:USER, then the other
+fields of the group's line. A user who has a line gets no other; with --every, none with the same
+binding.
+
 --indirect also lists who can get to VERB TARGET by taking over others, step by step. A line then
 has eleven fields:
   STEPS    the fewest steps from WHO to somebody who may VERB TARGET; 0 if WHO may
@@ -53,13 +57,15 @@ has eleven fields:
   STEP     how WHO takes over TO, as in powers --help
 and BINDING, ROLE, SOURCE, RULE and SUBJECT, as in paths --help, of the first grant that gives WHO
 the step or, if STEPS is 0, VERB TARGET. To read a path, look up TO as the WHO of a line above, and
-so on to a line whose STEPS is 0. --indirect excludes --anywhere, --any-name, --every and --why.
+so on to a line whose STEPS is 0. --indirect excludes --anywhere, --any-name, --every, --members and
+--why.
 
 Examples:
   rbacaudit who-can -n dev delete secrets cluster.json namespaced.json
   rbacaudit who-can -n dev --why delete secrets cluster.json namespaced.json
   rbacaudit who-can --anywhere --every get secrets cluster.json namespaced.json
   rbacaudit who-can -n dev --any-name get secrets cluster.json namespaced.json
+  rbacaudit who-can -n dev --members get secrets cluster.json namespaced.json groups.json
   rbacaudit who-can -n dev --indirect --steps run,exec get secrets cluster.json namespaced.json
   rbacaudit who-can get /metrics cluster.json";
 
@@ -293,8 +299,8 @@ pub(crate) const WHY_NOT: &str =
 pub(crate) const WHY: &str =
     "After yes, print why: BINDING, its ROLE, the SOURCE role, its RULE, the SUBJECT";
 
-pub(crate) const INDIRECT: &str =
-    "List also who can take over a holder; excludes --anywhere, --any-name, --every and --why";
+pub(crate) const INDIRECT: &str = "List also who can take over a holder; excludes --anywhere, \
+    --any-name, --every, --members and --why";
 
 pub(crate) const WHO_CAN_STEPS: &str =
     "With --indirect, only these steps count, e.g. run,exec (default: all of powers)";

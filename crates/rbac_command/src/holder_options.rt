@@ -18,6 +18,8 @@ const ANY_NAME: &str = "Count rules limited to object names too, and ignore a NA
 
 const EVERY: &str = "List each holder with every binding that grants it, not only the first";
 
+const MEMBERS: &str = "List also the users whom Group documents put into these groups";
+
 const WHY: &str = "After the binding, print why: its ROLE, the SOURCE role, its RULE, the SUBJECT";
 
 // Adds these options.
@@ -30,6 +32,7 @@ pub(crate) fn with_holder_options<'a>(alloc: Global, command: Built<'a>) -> Buil
     let command = with(command, flag(alloc, "anywhere", ANYWHERE));
     let command = with(command, flag(alloc, "any-name", ANY_NAME));
     let command = with(command, flag(alloc, "every", EVERY));
+    let command = with(command, flag(alloc, "members", MEMBERS));
     with(command, flag(alloc, "why", WHY))
 }
 
@@ -42,5 +45,6 @@ pub(crate) fn holder_options_of(matches: &ArgMatches<'_>) -> HolderOptions
         every: flag_of(matches, "every"),
         anywhere: flag_of(matches, "anywhere"),
         any_name: flag_of(matches, "any-name"),
+        members: flag_of(matches, "members"),
     }
 }

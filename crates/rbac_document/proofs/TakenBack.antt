@@ -15,7 +15,7 @@ use Rattle.json_fields.specs.Fields.{field}
 use Rattle.rbac_manifest.specs.Kinds.{kind_at, version_read, needs_version, version_at, kind_named, kind_of}
 use Rattle.rbac_manifest.specs.Document.{not_an_object, bad_version, bad_header, fault}
 use Rattle.rbac_manifest.specs.UniverseDocument.{is_bad_universe}
-use Rattle.rbac_manifest.specs.Contents.{as_object, as_namespace, as_account, as_lists, is_api_list, api_entries, objects_in, namespaces_in, accounts_in, documents_in}
+use Rattle.rbac_manifest.specs.Contents.{as_object, as_namespace, as_account, as_lists, as_membership, is_api_list, api_entries, objects_in, namespaces_in, accounts_in, documents_in, memberships_in}
 use Rattle.rbac_manifest.specs.Load.{refusal_in, contents_of_input, json_in, file_refusal, contents_of_file, fault_from, file_or, all_contents, LoadedView, IsLoaded}
 use Rattle.rbac_manifest.specs.declared.fault.LoadFault.{LoadFault}
 use Rattle.rbac_manifest.proofs.Conditions.{universe_is}
@@ -60,6 +60,10 @@ module _ (lists : UniverseLists) (can : AreReadable lists) where
   gives_no_entries : flat_map api_entries (contents_of_file (document_text lists)) ≡ []
   unfolding contents_of_file contents_of_input kind_of kind_at version_at version_read needs_version kind_named field
   gives_no_entries = rw (json_is, document_given lists named) refl
+
+  gives_no_memberships : memberships_in (contents_of_file (document_text lists)) ≡ []
+  unfolding contents_of_file contents_of_input kind_of kind_at version_at version_read needs_version kind_named field
+  gives_no_memberships = rw (json_is, document_given lists named) refl
 
   gives_lists : documents_in (contents_of_file (document_text lists)) ≡ given lists ∷ []
   unfolding contents_of_file contents_of_input kind_of kind_at version_at version_read needs_version kind_named field
@@ -122,6 +126,7 @@ taken_back inputs l lists is can =
     let is_given : list_any is_api_list (all_contents (inputs ++ text ∷ [])) ≡ list_any is_api_list gs = ap (list_any is_api_list) more ∙ list_any-append is_api_list gs hs ∙ ap (λ b. list_any is_api_list gs || b) (gives_no_api_list lists can) ∙ or_false (list_any is_api_list gs) in
     let entries : flat_map api_entries (all_contents (inputs ++ text ∷ [])) ≡ flat_map api_entries gs = ap (flat_map api_entries) more ∙ flat_map-append api_entries gs hs ∙ ap (λ l. flat_map api_entries gs ++ l) (gives_no_entries lists can) ∙ append-nil (flat_map api_entries gs) in
     let documents : documents_in (all_contents (inputs ++ text ∷ [])) ≡ documents_in gs ++ given lists ∷ [] = ap documents_in more ∙ filter_map-append as_lists gs hs ∙ ap (λ l. documents_in gs ++ l) (gives_lists lists can) in
+    let memberships : memberships_in (all_contents (inputs ++ text ∷ [])) ≡ memberships_in gs = ap memberships_in more ∙ none_more as_membership gs hs (gives_no_memberships lists can) in
     record {
       accepted = fault_push inputs text 0 is.accepted (not_refused lists can);
       kept = rw objects is.kept;
@@ -131,4 +136,5 @@ taken_back inputs l lists is can =
       catalogue = is.catalogue ∙ sym (λ i. record { is_given = is_given i; entries = entries i });
       lists = rw documents (sym (all_given l.policy.held l.catalogue (namespaces_in (all_contents (inputs ++ text ∷ []))) (accounts_in (all_contents (inputs ++ text ∷ []))) (documents_in gs) lists));
       replaced = rw (objects, namespaces, accounts) is.replaced;
+      memberships = is.memberships ∙ sym memberships;
     }

@@ -12,7 +12,8 @@ use Rattle.rbac_manifest.specs.Label.{aggregation_of, aggregation_at}
 use Rattle.rbac_manifest.specs.Binding.{role_ref_at, subjects_in}
 use Rattle.rbac_manifest.specs.ApiList.{is_bad_api_list, entries_at}
 use Rattle.rbac_manifest.specs.UniverseDocument.{is_bad_universe, given_lists_at}
-use Rattle.rbac_manifest.specs.Document.{fault, first_of, not_an_object, bad_version, bad_metadata, bad_rules, bad_role_ref, bad_subjects, bad_selector, bad_catalogue, bad_universe, bad_header, refusals, bad_body, role_in, cluster_role_in, binding_in, content_in}
+use Rattle.rbac_manifest.specs.Group.{is_bad_group, membership_at}
+use Rattle.rbac_manifest.specs.Document.{fault, first_of, not_an_object, bad_version, bad_metadata, bad_rules, bad_role_ref, bad_subjects, bad_selector, bad_catalogue, bad_universe, bad_group, bad_header, refusals, bad_body, role_in, cluster_role_in, binding_in, content_in}
 use Rattle.rbac_manifest.specs.declared.kind.Kind.{Kind}
 use Rattle.rbac_manifest.specs.declared.kind.Kind.TheVariants as kinds
 use Rattle.rbac_manifest.specs.declared.kind.Implied.TheVariants as lists
@@ -138,6 +139,14 @@ module _ (ms : Members) (ds : Items) where
     other_texts (codes "urls") ms ds refl,
   ) refl
 
+  same_bad_group : bad_group (with_items ms ds) ≡ bad_group (object ms)
+  unfolding is_bad_group
+  same_bad_group = rw (other_list (codes "users") ms ds refl) refl
+
+  same_membership : membership_at (with_items ms ds) ≡ membership_at (object ms)
+  unfolding membership_at
+  same_membership = rw (same_metadata, other_list (codes "users") ms ds refl) refl
+
   -- ---- the whole document
 
   same_refusals : (k : Kind) → refusals k (with_items ms ds) ≡ refusals k (object ms)
@@ -149,6 +158,7 @@ module _ (ms : Members) (ds : Items) where
   same_refusals kinds.ServiceAccount = rw (same_bad_metadata) refl
   same_refusals kinds.ApiList = rw (same_bad_catalogue) refl
   same_refusals kinds.Universe = rw (same_bad_universe) refl
+  same_refusals kinds.Group = rw (same_bad_metadata, same_bad_group) refl
   same_refusals (kinds.List implied) = refl
   same_refusals kinds.Other = refl
 
@@ -168,5 +178,6 @@ module _ (ms : Members) (ds : Items) where
   same_content kinds.ServiceAccount = rw (same_metadata) refl
   same_content kinds.ApiList = rw (same_entries) refl
   same_content kinds.Universe = rw (same_given_lists) refl
+  same_content kinds.Group = rw (same_membership) refl
   same_content (kinds.List implied) = refl
   same_content kinds.Other = refl

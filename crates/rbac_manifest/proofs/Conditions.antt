@@ -15,6 +15,7 @@ use Rattle.rbac_manifest.specs.Binding.{is_rbac_group, role_named, role_ref_from
 use Rattle.rbac_manifest.specs.Label.{labels_at, operator_named, requirement_from, requirement_at, selector_from, selector_at, selectors_from, aggregation_of, aggregation_at, is_bad_requirement, is_bad_selector, is_bad_aggregation}
 use Rattle.rbac_manifest.specs.ApiList.{parts, group_by, are_one_or_two, group_of, resource_name_at, entry_at, entries_at, is_bad_group_version, is_bad_entry, is_bad_api_list}
 use Rattle.rbac_manifest.specs.UniverseDocument.{name_in, user_at, member_at, principal_by, principal_at, resource_at, items_field, where_given, given_lists_at, is_bad_name, is_bad_principal, is_bad_resource, is_bad_universe}
+use Rattle.rbac_manifest.specs.Group.{is_bad_group}
 
 -- ---- booleans
 
@@ -369,3 +370,9 @@ universe_is d = sym (
     (or_is (texts_given (codes "verbs") d)
     (or_is (items_given_is resource_at is_bad_resource bad_resource_is (codes "resources") d)
     (or_is (texts_given (codes "names") d) (texts_given (codes "urls") d))))))
+
+-- ---- M13
+
+pub group_is : (d : Data) → is_bad_group d ≡ is_none (items_field name_in (codes "users") d)
+unfolding is_bad_group
+group_is d = sym (list_is name_in is_bad_name (λ name. no_name_in (as_str name)) (list_field (codes "users") d))

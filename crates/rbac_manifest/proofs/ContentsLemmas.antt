@@ -8,12 +8,12 @@ use Rattle.std.proofs.lemmas.List.Folds.{list_any-append}
 use Rattle.std.proofs.lemmas.Grind.{flat_map-append}
 use Rattle.rbac_manifest.specs.declared.content.Content.{Content}
 use Rattle.rbac_manifest.specs.Load.{all_contents, contents_of_file}
-use Rattle.rbac_manifest.specs.Contents.{ContentsView, sorted_contents, with_contents, objects_in, namespaces_in, accounts_in, documents_in, as_object, as_namespace, as_account, as_lists, is_api_list, api_entries}
+use Rattle.rbac_manifest.specs.Contents.{ContentsView, sorted_contents, with_contents, objects_in, namespaces_in, accounts_in, documents_in, memberships_in, as_object, as_namespace, as_account, as_lists, as_membership, is_api_list, api_entries}
 
 -- nothing more
 pub contents_none : (g : ContentsView) → with_contents g [] ≡ g
 unfolding with_contents
-contents_none g = rw (append-nil g.objects, append-nil g.namespaces, append-nil g.accounts, append-nil g.documents, append-nil g.catalogue.entries, or-false g.catalogue.is_given) refl
+contents_none g = rw (append-nil g.objects, append-nil g.namespaces, append-nil g.accounts, append-nil g.documents, append-nil g.memberships, append-nil g.catalogue.entries, or-false g.catalogue.is_given) refl
 
 -- what is given first, and what is given after it
 pub contents_more : (g : ContentsView) (xs ys : List Content) → with_contents (with_contents g xs) ys ≡ with_contents g (xs ++ ys)
@@ -27,6 +27,8 @@ contents_more g xs ys = rw (
   ← append_assoc g.accounts (accounts_in xs) (accounts_in ys),
   filter_map-append as_lists xs ys,
   ← append_assoc g.documents (documents_in xs) (documents_in ys),
+  filter_map-append as_membership xs ys,
+  ← append_assoc g.memberships (memberships_in xs) (memberships_in ys),
   list_any-append is_api_list xs ys,
   or_assoc g.catalogue.is_given (list_any is_api_list xs) (list_any is_api_list ys),
   flat_map-append api_entries xs ys,

@@ -78,6 +78,7 @@ no_items_refused kinds.Namespace d other = refl
 no_items_refused kinds.ServiceAccount d other = refl
 no_items_refused kinds.ApiList d other = refl
 no_items_refused kinds.Universe d other = refl
+no_items_refused kinds.Group d other = refl
 no_items_refused (kinds.List implied) d other = absurd (other implied refl)
 no_items_refused kinds.Other d other = refl
 
@@ -90,6 +91,7 @@ one_content kinds.Namespace d other = refl
 one_content kinds.ServiceAccount d other = refl
 one_content kinds.ApiList d other = refl
 one_content kinds.Universe d other = refl
+one_content kinds.Group d other = refl
 one_content (kinds.List implied) d other = absurd (other implied refl)
 one_content kinds.Other d other = refl
 

@@ -57,8 +57,8 @@ one_policy kept grants objects p q a b =
 
 -- the parts determine what is loaded
 same_loaded : (l m : LoadedView) → l.policy ≡ m.policy → l.catalogue ≡ m.catalogue → l.principals ≡ m.principals → l.lists ≡ m.lists
-    → l.replaced ≡ m.replaced → l ≡ m
-same_loaded l m a b c d e = λ i. record { policy = a i; catalogue = b i; principals = c i; lists = d i; replaced = e i }
+    → l.replaced ≡ m.replaced → l.memberships ≡ m.memberships → l ≡ m
+same_loaded l m a b c d e f = λ i. record { policy = a i; catalogue = b i; principals = c i; lists = d i; replaced = e i; memberships = f i }
 
 -- what was replaced is one list
 one_replaced : (names : List (List Text)) (a b : List Replaced) → AreReplaced names a → AreReplaced names b → a ≡ b
@@ -75,6 +75,7 @@ one_load kept grants inputs l m a b =
     (a.principals ∙ ap (λ (p : PolicyView). named p.held) policy ∙ sym b.principals)
     (a.lists ∙ ap (λ (p : PolicyView). meant p.held l.catalogue) policy ∙ ap (λ (c : CatalogueView). meant m.policy.held c) found ∙ sym b.lists)
     (one_replaced (names_given (objects_in (all_contents inputs)) (namespaces_in (all_contents inputs)) (accounts_in (all_contents inputs))) l.replaced m.replaced a.replaced b.replaced)
+    (a.memberships ∙ sym b.memberships)
 
 same_fault : (o : Option LoadFault) (f g : LoadFault) → o ≡ Some f → o ≡ Some g → f ≡ g
 same_fault o f g a b = cc

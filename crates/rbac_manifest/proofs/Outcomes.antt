@@ -13,7 +13,7 @@ use Rattle.rbac_manifest.specs.Load.{LoadedView, IsLoaded, HasFault, HasTooManyG
 use Rattle.rbac_manifest.specs.Changed.{IsResolved}
 
 abbrev pub view_of : ContentsView → PolicyView → List Replaced → LoadedView
-view_of g p rs = record { policy = p; catalogue = g.catalogue; principals = principals_of p.held g.accounts; lists = lists_meant p.held g.catalogue g.namespaces g.accounts g.documents; replaced = rs }
+view_of g p rs = record { policy = p; catalogue = g.catalogue; principals = principals_of p.held g.accounts; lists = lists_meant p.held g.catalogue g.namespaces g.accounts g.documents; replaced = rs; memberships = g.memberships }
 
 pub loaded : (inputs : List (List ℕ)) (g : ContentsView) (p : PolicyView) (rs : List Replaced)
     → g ≡ sorted_contents (all_contents inputs)
@@ -31,6 +31,7 @@ loaded inputs g p rs e accepted is replaced = record {
   principals = ap (λ h. principals_of p.held h.accounts) e;
   lists = ap (λ h. lists_meant p.held g.catalogue h.namespaces h.accounts h.documents) e;
   replaced = subst (λ h. AreReplaced (names_given h.objects h.namespaces h.accounts) rs) e replaced;
+  memberships = ap (λ h. h.memberships) e;
 }
 
 pub refused : (inputs : List (List ℕ)) (g : ContentsView)

@@ -13,7 +13,8 @@ use Rattle.rbac_manifest.specs.Label.{labels_at, labels_or_empty, aggregation_of
 use Rattle.rbac_manifest.specs.Binding.{role_ref_at, subjects_in}
 use Rattle.rbac_manifest.specs.ApiList.{is_bad_api_list, entries_at}
 use Rattle.rbac_manifest.specs.UniverseDocument.{is_bad_universe, given_lists_at}
-use Rattle.rbac_manifest.specs.Document.{fault, stands, first_of, when, not_an_object, bad_version, bad_metadata, bad_rules, bad_role_ref, bad_subjects, bad_selector, bad_catalogue, bad_universe, bad_header, refusals, bad_body, role_in, cluster_role_in, binding_in, content_in}
+use Rattle.rbac_manifest.specs.Group.{is_bad_group, membership_at}
+use Rattle.rbac_manifest.specs.Document.{fault, stands, first_of, when, not_an_object, bad_version, bad_metadata, bad_rules, bad_role_ref, bad_subjects, bad_selector, bad_catalogue, bad_universe, bad_group, bad_header, refusals, bad_body, role_in, cluster_role_in, binding_in, content_in}
 use Rattle.rbac_manifest.specs.declared.part.Part.{Part}
 use Rattle.rbac_manifest.specs.declared.part.Part.TheVariants.{Document, Metadata, Whole}
 use Rattle.rbac_manifest.specs.declared.kind.Kind.{Kind}
@@ -178,6 +179,10 @@ module _ (d : Data) where
   unfolding read_under
   urls_are = refl
 
+  users_are : IsRead (codes "users")
+  unfolding read_under
+  users_are = refl
+
   same_kind_text : (implied : Implied) → kind_at implied (read_of d) ≡ kind_at implied d
   unfolding kind_at
   same_kind_text implied = rw (whole_field Document (codes "kind") d kind_is) refl
@@ -269,6 +274,14 @@ module _ (d : Data) where
     whole_texts Document (codes "urls") d urls_are,
   ) refl
 
+  same_bad_group : bad_group (read_of d) ≡ bad_group d
+  unfolding is_bad_group
+  same_bad_group = rw (whole_list Document (codes "users") d users_are) refl
+
+  same_membership : membership_at (read_of d) ≡ membership_at d
+  unfolding membership_at
+  same_membership = rw (same_metadata, whole_list Document (codes "users") d users_are) refl
+
   -- ---- the whole document
 
   same_refusals : (k : Kind) → refusals k (read_of d) ≡ refusals k d
@@ -280,6 +293,7 @@ module _ (d : Data) where
   same_refusals kinds.ServiceAccount = rw (same_bad_metadata) refl
   same_refusals kinds.ApiList = rw (same_bad_catalogue) refl
   same_refusals kinds.Universe = rw (same_bad_universe) refl
+  same_refusals kinds.Group = rw (same_bad_metadata, same_bad_group) refl
   same_refusals (kinds.List implied) = refl
   same_refusals kinds.Other = refl
 
@@ -293,6 +307,7 @@ module _ (d : Data) where
   same_content kinds.ServiceAccount = rw (same_metadata) refl
   same_content kinds.ApiList = rw (same_entries) refl
   same_content kinds.Universe = rw (same_given_lists) refl
+  same_content kinds.Group = rw (same_membership) refl
   same_content (kinds.List implied) = refl
   same_content kinds.Other = refl
 

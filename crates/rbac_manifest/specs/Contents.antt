@@ -7,6 +7,7 @@ use Rattle.rbac_catalogue.specs.Catalogue.{CatalogueView}
 use Rattle.rbac_catalogue.specs.declared.entry.Entry.{Entry}
 use Rattle.rbac_lists.specs.declared.given_lists.Account.{Account}
 use Rattle.rbac_lists.specs.declared.given_lists.GivenLists.{GivenLists}
+use Rattle.rbac_groups.specs.declared.membership.Membership.{Membership}
 use Rattle.rbac_manifest.specs.declared.content.Content.{Content}
 use Rattle.rbac_manifest.specs.declared.content.Content.TheVariants as contents
 
@@ -61,6 +62,16 @@ as_lists g = None
 abbrev pub documents_in : List Content → List GivenLists
 documents_in gs = filter_map as_lists gs
 
+-- the group of a Group document, with the users that it lists, if this is one
+abbrev pub as_membership : Content → Option Membership
+as_membership (contents.Membership m) = Some m
+as_membership g = None
+
+-- the groups of all Group documents, in order, each with the users that it lists; of several
+-- documents of one group none replaces another (own)
+abbrev pub memberships_in : List Content → List Membership
+memberships_in gs = filter_map as_membership gs
+
 -- ---- while documents are read
 
 -- what contracts see of what documents gave so far
@@ -70,6 +81,7 @@ pub record ContentsView : Type 0 where
   pub accounts : List Account
   pub catalogue : CatalogueView
   pub documents : List GivenLists
+  pub memberships : List Membership
 
 -- what documents give, sorted
 unfoldable pub sorted_contents : List Content → ContentsView
@@ -79,6 +91,7 @@ sorted_contents gs = record {
   accounts = accounts_in gs;
   catalogue = catalogue_in gs;
   documents = documents_in gs;
+  memberships = memberships_in gs;
 }
 
 -- the catalogue, with what later API resource lists add
@@ -96,4 +109,5 @@ with_contents g gs = record {
   accounts = g.accounts ++ accounts_in gs;
   catalogue = catalogue_with g.catalogue gs;
   documents = g.documents ++ documents_in gs;
+  memberships = g.memberships ++ memberships_in gs;
 }

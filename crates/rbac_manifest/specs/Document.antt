@@ -22,6 +22,7 @@ use Rattle.rbac_manifest.specs.Label.{is_bad_aggregation, aggregation_at}
 use Rattle.rbac_manifest.specs.Binding.{is_bad_role_ref, is_bad_subject, role_ref_at, subjects_in}
 use Rattle.rbac_manifest.specs.ApiList.{is_bad_api_list, entries_at}
 use Rattle.rbac_manifest.specs.UniverseDocument.{is_bad_universe, given_lists_at}
+use Rattle.rbac_manifest.specs.Group.{is_bad_group, membership_at}
 use Rattle.rbac_manifest.specs.declared.metadata.Metadata.{Metadata}
 use Rattle.rbac_manifest.specs.declared.content.Content.{Content}
 use Rattle.rbac_manifest.specs.declared.content.Content.TheVariants as contents
@@ -33,6 +34,7 @@ use Rattle.rbac_manifest.specs.declared.fault.Cause.TheVariants.{NotAnObject, Ba
 use Rattle.rbac_manifest.specs.declared.fault.Cause.TheVariants.{BadMetadata, BadRule, BadRoleRef}
 use Rattle.rbac_manifest.specs.declared.fault.Cause.TheVariants.{BadSubject, BadSelector}
 use Rattle.rbac_manifest.specs.declared.fault.Cause.TheVariants.{BadCatalogue, BadUniverse}
+use Rattle.rbac_manifest.specs.declared.fault.Cause.TheVariants.{BadGroup}
 
 -- ---- the refusals by number: each is a condition and its cause
 
@@ -87,6 +89,10 @@ bad_catalogue d = when (is_bad_api_list d) BadCatalogue
 abbrev pub bad_universe : Data → Option Cause
 bad_universe d = when (is_bad_universe d) BadUniverse
 
+-- M13: the members of a group are bad
+abbrev pub bad_group : Data → Option Cause
+bad_group d = when (is_bad_group d) BadGroup
+
 -- what is wrong with the kind or version of a document
 unfoldable pub bad_header : Implied → Data → Option Cause
 bad_header implied d = first_of (not_an_object implied d ∷ bad_version implied d ∷ [])
@@ -105,6 +111,7 @@ refusals kinds.Namespace d = bad_metadata d ∷ []
 refusals kinds.ServiceAccount d = bad_metadata d ∷ []
 refusals kinds.ApiList d = bad_catalogue d ∷ []
 refusals kinds.Universe d = bad_universe d ∷ []
+refusals kinds.Group d = bad_metadata d ∷ bad_group d ∷ []
 refusals (kinds.List items) d = []
 refusals kinds.Other d = []
 
@@ -180,6 +187,7 @@ content_in kinds.ServiceAccount d =
     option_map (λ m. contents.Account (account_from m)) (metadata_at d)
 content_in kinds.ApiList d = option_map contents.ApiList (entries_at d)
 content_in kinds.Universe d = option_map contents.Lists (given_lists_at d)
+content_in kinds.Group d = option_map contents.Membership (membership_at d)
 content_in (kinds.List items) d = None
 content_in kinds.Other d = None
 

@@ -6,7 +6,7 @@ use Rattle.rbac_manifest.specs.declared.fault.Cause.TheVariants.{NotJson, NotAnO
 use Rattle.rbac_manifest.specs.declared.fault.Cause.TheVariants.{BadMetadata, BadRule, BadRoleRef}
 use Rattle.rbac_manifest.specs.declared.fault.Cause.TheVariants.{BadSubject, BadSelector}
 use Rattle.rbac_manifest.specs.declared.fault.Cause.TheVariants.{BadCatalogue, BadUniverse, TooMany}
-use Rattle.rbac_manifest.specs.declared.fault.Cause.TheVariants.{NoMemory}
+use Rattle.rbac_manifest.specs.declared.fault.Cause.TheVariants.{NoMemory, BadGroup}
 use Rattle.rbac_manifest.specs.declared.fault.At.{At}
 use Rattle.rbac_manifest.specs.declared.fault.LoadFault.{LoadFault}
 
@@ -25,6 +25,7 @@ cause_text BadCatalogue = codes "M9 bad API resource list"
 cause_text BadUniverse = codes "M10 bad universe"
 cause_text TooMany = codes "M11 too many grants"
 cause_text NoMemory = codes "out of memory"
+cause_text BadGroup = codes "M13 bad group"
 
 -- the item, if there is one
 abbrev pub item_text : Option ℕ → List ℕ

@@ -30,6 +30,10 @@ unfoldable pub version_read : List ℕ → Option (List ℕ)
 version_read v =
     if starts_with nat_eq v (codes "rbac.authorization.k8s.io/") then rbac_version v else Some v
 
+-- the version of OpenShift's users and groups (OpenShift, Group)
+abbrev pub users_v1 : List ℕ
+users_v1 = codes "user.openshift.io/v1"
+
 -- the kind that a list implies for its items
 abbrev pub implied_kind : Implied → Option (List ℕ)
 implied_kind lists.Nothing = None
@@ -39,6 +43,7 @@ implied_kind lists.RoleBinding = Some (codes "RoleBinding")
 implied_kind lists.ClusterRoleBinding = Some (codes "ClusterRoleBinding")
 implied_kind lists.Namespace = Some (codes "Namespace")
 implied_kind lists.ServiceAccount = Some (codes "ServiceAccount")
+implied_kind lists.Group = Some (codes "Group")
 
 -- the version that a list implies for its items
 abbrev pub implied_version : Implied → Option (List ℕ)
@@ -49,6 +54,7 @@ implied_version lists.RoleBinding = Some rbac_v1
 implied_version lists.ClusterRoleBinding = Some rbac_v1
 implied_version lists.Namespace = Some (codes "v1")
 implied_version lists.ServiceAccount = Some (codes "v1")
+implied_version lists.Group = Some users_v1
 
 -- a field's own text, or the implied one if the field is missing
 abbrev pub own_or : Option (List ℕ) → Option Data → Option (List ℕ)
@@ -66,7 +72,7 @@ pub record Reading : Type 0 where
   pub means : Kind
 
 -- the table of the pairs that are read, with versions as they are read; a list of objects implies
--- the kind of its items (Kubernetes API, own for Universe)
+-- the kind of its items (Kubernetes API; OpenShift for Group; own for Universe)
 abbrev pub kinds_read : List Reading
 kinds_read =
     record { version = rbac_v1; kind = codes "Role"; means = kinds.Role }
@@ -84,6 +90,8 @@ kinds_read =
     ∷ record { version = codes "v1"; kind = codes "ServiceAccountList"; means = kinds.List lists.ServiceAccount }
     ∷ record { version = codes "v1"; kind = codes "APIResourceList"; means = kinds.ApiList }
     ∷ record { version = codes "rbacaudit/v1"; kind = codes "Universe"; means = kinds.Universe }
+    ∷ record { version = users_v1; kind = codes "Group"; means = kinds.Group }
+    ∷ record { version = users_v1; kind = codes "GroupList"; means = kinds.List lists.Group }
     ∷ []
 
 -- whether this is an API resource list, whose version may be missing (own)

@@ -5,6 +5,7 @@ pub mod Document
 pub mod FaultTexts
 pub mod Contents
 pub mod DocumentList
+pub mod Group
 pub mod Kinds
 pub mod Label
 pub mod Lists

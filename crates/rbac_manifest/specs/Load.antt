@@ -12,8 +12,9 @@ use Rattle.json_fields.specs.Fields.{list_field}
 use Rattle.rbac_manifest.specs.Kinds.{kind_of}
 use Rattle.rbac_manifest.specs.Document.{fault, stands, content_in}
 use Rattle.rbac_manifest.specs.Contents.{objects_in, namespaces_in, accounts_in, catalogue_in}
-use Rattle.rbac_manifest.specs.Contents.{documents_in}
+use Rattle.rbac_manifest.specs.Contents.{documents_in, memberships_in}
 use Rattle.rbac_catalogue.specs.Catalogue.{CatalogueView}
+use Rattle.rbac_groups.specs.declared.membership.Membership.{Membership}
 use Rattle.rbac_universe.specs.declared.lists.UniverseLists.{UniverseLists}
 use Rattle.rbac_lists.specs.Derived.{principals_of}
 use Rattle.rbac_lists.specs.Meant.{lists_meant}
@@ -148,19 +149,20 @@ all_contents inputs = flat_map contents_of_file inputs
 -- ---- what is loaded
 
 -- what contracts see of what was loaded: the policy, the catalogue, the principals that are named,
--- the lists of a universe, and the objects that were replaced
+-- the lists of a universe, the objects that were replaced, and the members of groups
 pub record LoadedView : Type 0 where
   pub policy : PolicyView
   pub catalogue : CatalogueView
   pub principals : List Who
   pub lists : UniverseLists
   pub replaced : List Replaced
+  pub memberships : List Membership
 
 -- every document is accepted; of each kind, namespace and name the last object is kept (own); the
 -- grants follow from the kept objects, and are at most `most_grants`; the catalogue is that of all
 -- API resource lists; the principals are those that bindings and ServiceAccount objects name; the
--- lists follow from all of this; and the objects listed as replaced are those that several
--- documents give
+-- lists follow from all of this; the objects listed as replaced are those that several documents
+-- give; and the members of groups are those that Group documents list
 pub record IsLoaded (inputs : List (List ℕ)) (l : LoadedView) : Type 0 where
   pub accepted : document_fault inputs ≡ None
   pub kept : AreKept (objects_in (all_contents inputs)) l.policy.held
@@ -174,6 +176,7 @@ pub record IsLoaded (inputs : List (List ℕ)) (l : LoadedView) : Type 0 where
   pub replaced : AreReplaced
       (names_given (objects_in (all_contents inputs)) (namespaces_in (all_contents inputs))
       (accounts_in (all_contents inputs))) l.replaced
+  pub memberships : l.memberships ≡ memberships_in (all_contents inputs)
 
 -- M11: all inputs together give more than `most_grants`; this fault has no place
 abbrev pub too_many : LoadFault

@@ -18,11 +18,12 @@ object_names =
     codes "kind" ∷ codes "apiVersion" ∷ codes "roleRef" ∷ codes "subjects" ∷ codes "rules"
     ∷ codes "aggregationRule" ∷ []
 
--- the members of API resource lists and of Universe documents that are read, besides those above
+-- the members of API resource lists, of Universe documents and of Groups that are read, besides
+-- those above
 abbrev pub list_names : List Text
 list_names =
     codes "groupVersion" ∷ codes "resources" ∷ codes "principals" ∷ codes "namespaces"
-    ∷ codes "verbs" ∷ codes "names" ∷ codes "urls" ∷ []
+    ∷ codes "verbs" ∷ codes "names" ∷ codes "urls" ∷ codes "users" ∷ []
 
 -- the members of the metadata that are read
 abbrev pub metadata_names : List Text

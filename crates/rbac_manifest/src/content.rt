@@ -1,6 +1,7 @@
 //! What one document gives.
 
 use rbac_catalogue::Entries;
+use rbac_groups::Membership;
 use rbac_lists::{Account, GivenLists};
 use rbac_model::Object;
 use rbac_terms::Word;
@@ -15,4 +16,5 @@ pub(crate) enum Content {
     Account(Account),
     ApiList(Entries),
     Lists(GivenLists),
+    Membership(Membership),
 }

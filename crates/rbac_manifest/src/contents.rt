@@ -5,6 +5,7 @@ ghost use Rattle.rbac_manifest.specs.Contents.{sorted_contents, with_contents};
 
 use crate::content::Content;
 use rbac_catalogue::Catalogue;
+use rbac_groups::Membership;
 use rbac_lists::{Account, GivenLists};
 use rbac_model::Object;
 use rbac_terms::Word;
@@ -19,6 +20,7 @@ pub(crate) struct Contents {
     pub accounts: Vec<Account>,
     pub catalogue: Catalogue,
     pub documents: Vec<GivenLists>,
+    pub memberships: Vec<Membership>,
 }
 
 impl Model for Contents {
@@ -32,6 +34,7 @@ impl Model for Contents {
       accounts = g.accounts.items;
       catalogue = g.catalogue;
       documents = g.documents.items;
+      memberships = g.memberships.items;
     } };
 }
 
@@ -55,6 +58,7 @@ impl Contents {
             accounts: Vec::new(alloc),
             catalogue: Catalogue::new(alloc),
             documents: Vec::new(alloc),
+            memberships: Vec::new(alloc),
         }
     }
 
@@ -69,6 +73,7 @@ impl Contents {
             Content::Account(account) => put(&mut self.accounts, account),
             Content::ApiList(entries) => self.catalogue.give(entries),
             Content::Lists(lists) => put(&mut self.documents, lists),
+            Content::Membership(membership) => put(&mut self.memberships, membership),
         }
     }
 

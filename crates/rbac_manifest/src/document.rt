@@ -16,6 +16,7 @@ use crate::api_list::entries_of;
 use crate::binding::role_ref_of;
 use crate::content::Content;
 use crate::fault::{Cause, read_or};
+use crate::group::membership_of;
 use crate::kind::{Implied, Kind, kind_of};
 use crate::metadata::{Metadata, metadata_of};
 use crate::rule::read_rules;
@@ -151,6 +152,7 @@ fn content_of(alloc: Global, kind: Kind, document: &Value) -> Result<Option<Cont
             given_lists_of(alloc, document),
             Cause::BadUniverse,
         )?),
+        Kind::Group => Content::Membership(membership_of(alloc, document)?),
         Kind::List(_) | Kind::Other => return Ok(None),
     }))
 }

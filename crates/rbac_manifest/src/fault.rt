@@ -23,7 +23,7 @@ pub(crate) fn read_or<T: Drop>(read: Result<T, Trouble>, refused: Cause) -> Resu
     }
 }
 
-/// Why inputs are refused (own): M1 to M12, of which M11 and M12 aren't about one document. If a
+/// Why inputs are refused (own): M1 to M13, of which M11 and M12 aren't about one document. If a
 /// document has several faults, the one with the least number is reported. Places of rules and
 /// subjects count from 0; if the field isn't a list, the place is 0.
 #[derive(Clone, Copy, Debug, Drop, PartialEq, Eq)]
@@ -53,6 +53,8 @@ pub enum Cause {
     TooMany,
     /// M12: out of memory. Its text has no number.
     NoMemory,
+    /// M13: the users of a Group document aren't a list of names.
+    BadGroup,
 }
 
 impl From<AllocError> for Cause {
@@ -91,6 +93,7 @@ impl fmt::Display for Cause {
             Cause::BadUniverse => "M10 bad universe",
             Cause::TooMany => "M11 too many grants",
             Cause::NoMemory => "out of memory",
+            Cause::BadGroup => "M13 bad group",
         };
         f.write_str(text)
     }

@@ -36,6 +36,11 @@ const RBAC_V1BETA1: &str = rbac_group!("/v1beta1");
 
 const RBAC_PREFIX: &str = rbac_group!("/");
 
+// The version of OpenShift's users and groups, which no API of Kubernetes has.
+const USERS_V1: &str = "user.openshift.io/v1";
+
+const GROUP: &str = "Group";
+
 // A pair of version and kind that is read, and what a document with this pair is.
 #[derive(Drop)]
 struct Row {
@@ -121,6 +126,16 @@ const KINDS_READ: &[Row] = &[
         kind: "Universe",
         means: Kind::Universe,
     },
+    Row {
+        version: USERS_V1,
+        kind: GROUP,
+        means: Kind::Group,
+    },
+    Row {
+        version: USERS_V1,
+        kind: "GroupList",
+        means: Kind::List(Implied::Group),
+    },
 ];
 
 fn kinds_read() -> &'static [Row]
@@ -139,6 +154,7 @@ pub(crate) enum Implied {
     ClusterRoleBinding,
     Namespace,
     ServiceAccount,
+    Group,
 }
 
 // What a document is.
@@ -154,6 +170,8 @@ pub(crate) enum Kind {
     ApiList,
     // Lists of a universe.
     Universe,
+    // The members of a group.
+    Group,
     List(Implied),
     // Passed over.
     Other,
@@ -171,6 +189,7 @@ impl Implied {
             Implied::ClusterRoleBinding => Some(CLUSTER_ROLE_BINDING),
             Implied::Namespace => Some(NAMESPACE),
             Implied::ServiceAccount => Some(SERVICE_ACCOUNT),
+            Implied::Group => Some(GROUP),
         }
     }
 
@@ -184,6 +203,7 @@ impl Implied {
             | Implied::RoleBinding
             | Implied::ClusterRoleBinding => Some(RBAC_V1),
             Implied::Namespace | Implied::ServiceAccount => Some("v1"),
+            Implied::Group => Some(USERS_V1),
         }
     }
 }

@@ -1,6 +1,6 @@
 //! Reads Kubernetes manifests in JSON, as `kubectl get -o json` and `kubectl get --raw` write them,
 //! into the objects of the RBAC API and the policy that follows from them, the catalogue of API
-//! resources, and the lists that a universe is made of.
+//! resources, the lists that a universe is made of, and the members of groups.
 #![tactic(auto)]
 
 mod api_list;
@@ -12,6 +12,7 @@ mod copies;
 mod document;
 mod document_list;
 mod fault;
+mod group;
 mod kind;
 mod label;
 mod laws;
@@ -36,6 +37,7 @@ pub use laws::{
 pub use loaded::{Loaded, load};
 pub use loading::{Export, load_export, load_objects, load_policy};
 pub use rbac_catalogue::{Catalogue, Found};
+pub use rbac_groups::Membership;
 pub use rbac_streams::Input;
 pub use rbac_universe::{
     ListedResource, ListedResources, Principals, Universe, UniverseFault, UniverseLists,

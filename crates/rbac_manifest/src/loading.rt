@@ -25,6 +25,7 @@ use crate::document_list::text_contents;
 use crate::fault::{Cause, LoadFault, Refusal};
 use crate::replacement::{Replaced, replaced_of};
 use rbac_catalogue::Catalogue;
+use rbac_groups::Membership;
 use rbac_lists::{Account, GivenLists, fault_of_wide_rule, has_wide_rule, lists_of, users_of};
 use rbac_model::{Object, Objects, Policy, ResolveFault};
 use rbac_streams::Input;
@@ -42,6 +43,7 @@ pub struct Export {
     accounts: Vec<Account>,
     documents: Vec<GivenLists>,
     replaced: Vec<Replaced>,
+    memberships: Vec<Membership>,
 }
 
 impl Drop for Export {
@@ -53,6 +55,7 @@ impl Drop for Export {
             accounts,
             documents,
             replaced,
+            memberships,
         } = self;
     }
 }
@@ -73,6 +76,7 @@ impl Model for Export {
       lists = lists_meant l.policy.held l.catalogue l.namespaces.items l.accounts.items
           l.documents.items;
       replaced = l.replaced.items;
+      memberships = l.memberships.items;
     } };
 
     ghost invariant = { λ l. IsAscendingBy replaced_name l.replaced.items };
@@ -111,6 +115,14 @@ impl Export {
         ensures ordered { IsAscendingBy replaced_name self.now.replaced }
     {
         self.replaced.as_slice()
+    }
+
+    /// The groups of all Group documents, in their order, each with the users that the document
+    /// lists (OpenShift, "Group"). Several documents may be about one group. Doesn't allocate.
+    pub fn memberships(&self) -> &[Membership]
+        ensures { result.now ≡ self.now.memberships }
+    {
+        self.memberships.as_slice()
     }
 
     /// Whether a rule from which resources are derived names more of them by itself than a universe
@@ -274,6 +286,7 @@ pub fn load_export(alloc: Global, inputs: &[Input]) -> Result<Export, LoadFault>
         accounts,
         catalogue,
         documents,
+        memberships,
     } = contents_of(alloc, inputs)?;
     let replaced = replaced_among(
         alloc,
@@ -289,5 +302,6 @@ pub fn load_export(alloc: Global, inputs: &[Input]) -> Result<Export, LoadFault>
         accounts,
         documents,
         replaced,
+        memberships,
     })
 }

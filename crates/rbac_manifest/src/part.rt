@@ -27,7 +27,8 @@ const OBJECT_NAMES: &[&str] = &[
     "aggregationRule",
 ];
 
-// The members of API resource lists and Universe documents that are read, besides those above.
+// The members of API resource lists, Universe documents and Groups that are read, besides those
+// above.
 const LIST_NAMES: &[&str] = &[
     "groupVersion",
     "resources",
@@ -36,6 +37,7 @@ const LIST_NAMES: &[&str] = &[
     "verbs",
     "names",
     "urls",
+    "users",
 ];
 
 // The members of metadata that are read.
@@ -60,7 +62,7 @@ fn is_of_object(name: &str) -> bool
     is_among(OBJECT_NAMES, name)
 }
 
-// Whether a member of an API resource list or a Universe document is read.
+// Whether a member of an API resource list, a Universe document or a Group is read.
 fn is_of_list(name: &str) -> bool
     ensures { result ≡ is_among list_names name.now }
 {

@@ -37,9 +37,15 @@ MeansWhoCan l (WaysTo chosen question) = (l.indirect ≡ true)
     × (vec_items chosen ≡ steps_meant l.steps) × IsQuestion l.question question
 MeansWhoCan l action = ⊥
 
--- none of `--why`, `--every`, `--anywhere` and `--any-name`
+-- none of `--why`, `--every`, `--anywhere`, `--any-name` and `--members`
 abbrev pub no_options : HolderOptions
-no_options = record { why = false; every = false; anywhere = false; any_name = false }
+no_options = record {
+  why = false;
+  every = false;
+  anywhere = false;
+  any_name = false;
+  members = false;
+}
 
 -- the options go together: `--indirect` excludes the options about holders, and `--steps` needs
 -- `--indirect` (own)

@@ -55,6 +55,8 @@ pub struct HolderOptions {
     /// Whether a rule counts whatever its object names; the question's object name is then ignored.
     /// For a URL it changes nothing.
     pub any_name: bool,
+    /// Whether the users whom Group documents list in these groups have lines too.
+    pub members: bool,
 }
 
 /// Which rows `matrix` lists.

@@ -12,8 +12,8 @@ const BAD_STEP: &str = "U8 steps are impersonate, token, run, exec, secrets, nod
     escalate, certificates, webhooks, apiservices, bootstrap, volumes, namespaces";
 
 // The text of U9, which states which options go together.
-const BAD_INDIRECT: &str = "U9 --indirect excludes --anywhere, --any-name, --every and --why; \
-    --steps needs --indirect";
+const BAD_INDIRECT: &str = "U9 --indirect excludes --anywhere, --any-name, --every, --members and \
+    --why; --steps needs --indirect";
 
 // The text of U10, which lists what a path can end at.
 const BAD_END: &str = "U10 --to takes u:USER, g:GROUP, ClusterRole/NAME, Role/NS/NAME or *; \
@@ -42,8 +42,8 @@ pub enum QuestionFault {
     BadChange,
     /// U8: a part between the commas of `--steps` isn't the word of a step.
     BadStep,
-    /// U9: `who-can` has `--indirect` with `--why`, `--every`, `--anywhere` or `--any-name`, or
-    /// `--steps` without `--indirect`.
+    /// U9: `who-can` has `--indirect` with `--why`, `--every`, `--anywhere`, `--any-name` or
+    /// `--members`, or `--steps` without `--indirect`.
     BadIndirect,
     /// U10: TO isn't `u:` or `g:` with a name behind it, `ClusterRole/NAME`, `Role/NS/NAME` or `*`;
     /// or `paths` has `-n` without `--to`, beside a user or a group, or beside a Role of another

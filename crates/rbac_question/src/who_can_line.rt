@@ -19,7 +19,7 @@ pub struct WhoCanLine<'a> {
     pub indirect: bool,
     /// The words of steps after `--steps`, not yet split.
     pub steps: Option<&'a str>,
-    /// Which of `--why`, `--every`, `--anywhere` and `--any-name` are given.
+    /// Which of `--why`, `--every`, `--anywhere`, `--any-name` and `--members` are given.
     pub options: HolderOptions,
     /// The parts that ask the question.
     pub question: QuestionLine<'a>,
@@ -53,7 +53,7 @@ fn options_from(all: bool, given: HolderOptions) -> HolderOptions
 fn has_none(options: HolderOptions) -> bool
     ensures { IsTrue result ↔ (options ≡ no_options) }
 {
-    !options.why && !options.every && !options.anywhere && !options.any_name
+    !options.why && !options.every && !options.anywhere && !options.any_name && !options.members
 }
 
 // Whether the options go together: `--indirect` excludes the options about holders, and `--steps`
@@ -110,8 +110,9 @@ impl Action {
     ///
     /// U2 if VERB or TARGET is empty, or TARGET begins with `.`; otherwise U3 if a URL has a
     /// subresource; otherwise U8 for `--steps`, as for a `paths` line; otherwise U9 if `--indirect`
-    /// is given with `--why`, `--every`, `--anywhere` or `--any-name`, or `--steps` without
-    /// `--indirect`. Nothing is allocated before these refusals; memory may run out after them.
+    /// is given with `--why`, `--every`, `--anywhere`, `--any-name` or `--members`, or `--steps`
+    /// without `--indirect`. Nothing is allocated before these refusals; memory may run out after
+    /// them.
     pub fn who_can(alloc: Global, line: &WhoCanLine<'_>) -> Result<Self, QuestionFault>
         ensures answer { MatchResult result
             (λ action. AcceptsWhoCan line.now × MeansWhoCan line.now action)

@@ -13,7 +13,7 @@ use Rattle.rbac_manifest.proofs.loading.load_export.Goals as goal
 pub returns-in_err-policy-clause-fault : goal.returns-in_err-policy-clause-fault
 returns-in_err-policy-clause-fault c =
     let i = c.objects.inside in
-    let g : ContentsView = record { objects = i.objects.items; namespaces = i.namespaces.items; accounts = i.accounts.items; catalogue = i.catalogue; documents = i.documents.items } in
+    let g : ContentsView = record { objects = i.objects.items; namespaces = i.namespaces.items; accounts = i.accounts.items; catalogue = i.catalogue; documents = i.documents.items; memberships = i.memberships.items } in
     let e : g ≡ sorted_contents (all_contents c.args.inputs.now) = c.objects.view_is ∙ c.in_ok-objects.ensures.contents in
     let f = c.in_err-policy.field-0.0 in
     let told : f.cause ≢ NoMemory → HasFault c.args.inputs.now f = λ h. refused c.args.inputs.now g e c.in_ok-objects.ensures.sound f (c.in_err-policy.ensures.fault h) in
@@ -22,7 +22,7 @@ returns-in_err-policy-clause-fault c =
 pub returns-clause-ok : goal.returns-clause-ok
 returns-clause-ok c =
     let i = c.objects.inside in
-    let g : ContentsView = record { objects = i.objects.items; namespaces = i.namespaces.items; accounts = i.accounts.items; catalogue = i.catalogue; documents = i.documents.items } in
+    let g : ContentsView = record { objects = i.objects.items; namespaces = i.namespaces.items; accounts = i.accounts.items; catalogue = i.catalogue; documents = i.documents.items; memberships = i.memberships.items } in
     let e : g ≡ sorted_contents (all_contents c.args.inputs.now) = c.objects.view_is ∙ c.in_ok-objects.ensures.contents in
     let rs = c.in_ok-replaced.replaced.items in
     let names = ap (λ (os : List Object). names_given os c.as_slice-2.result.now c.as_slice-3.result.now) c.as_slice.ensures.value

@@ -1,0 +1,4 @@
+pub mod ByUser
+pub mod Listing
+pub mod NoneGiven
+pub mod Unchanged

@@ -1,0 +1,2 @@
+pub mod ByUser
+pub mod Memberships

@@ -1,0 +1,4 @@
+pub mod Candidates
+pub mod Listings
+pub mod Members
+pub mod Told
