@@ -2,8 +2,8 @@
 # The whole gate: each edit still fits, every proof, must-fail edit and test by `rt ci`, a wrong body of each public function, over
 # the libraries that `rt ci` has built, how wrong bodies are chosen and tried, what only a process can show, the hull's package by
 # itself, the kubectl plugin, completions and man page, the page in a browser, lines as tables and as JSON, what make dist packs,
-# random matrices, universes, rules, answers of why not, changes, powers and paths, and audit logs, bad documents, refused memory,
-# reads and writes, and each public call by itself. The last line counts all of it, as `N passed, M failed`. Above it stands what the
+# random matrices, universes, rules, members of groups, answers of why not, changes, powers and paths, and audit logs, bad documents,
+# refused memory, reads and writes, and each public call by itself. The last line counts all of it, as `N passed, M failed`. Above it stands what the
 # gate took; if a test skipped something that this machine lacks, a line between the two says what.
 set -u
 cd "$(dirname "$0")/.."
@@ -60,6 +60,7 @@ counted python3 tests/dist.py
 counted python3 tests/matrix_pages.py
 counted python3 tests/universe.py
 counted python3 tests/rules.py
+counted python3 tests/groups.py
 counted python3 tests/why_not.py
 counted python3 tests/diff.py
 counted python3 tests/paths.py

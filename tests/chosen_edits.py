@@ -20,7 +20,7 @@ import glob, json, os, re, sys
 if sys.argv[1] == 'doc':
     print(os.path.join(os.path.dirname(os.path.abspath(__file__)), 'START-HERE.md'))
     sys.exit()
-for crate in sorted(os.listdir('crates')):
+for crate in [line.split(':')[0] for line in open('crates.txt')]:
     names = []
     for file in sorted(glob.glob('crates/%s/src/*.rt' % crate)):
         module = os.path.basename(file)[:-3]
@@ -158,6 +158,26 @@ def chosen():
         checked('a commit that is not there', not found and 'there is no commit nothing' in said, said)
 
 
+def taken():
+    """Libraries that `rt ci` left at the top are taken as they are, but not once something has changed since."""
+    sources = {it: text for it, text in FILES.items() if not it.endswith('.edit')}
+    edit = {'crates/high/wrong-bodies/of_high.edit': FILES['crates/high/must-fail/of_high.edit']}
+    with repository({**sources, **edit}) as folder:
+        subprocess.run([os.path.join(folder, 'out', 'rt'), 'ci'], cwd=folder, check=True)
+        written(folder, {'out/rt': RT.replace("for crate in", "sys.exit('rt ci')\nfor crate in", 1)})
+        said, found = tried(folder)
+        checked('libraries are taken from the top', found == {'high/of_high': 'refused'} and '1 passed, 0 failed' in said, said)
+        for what, changed in (('a source', 'crates/low/src/a.rt'), ('a definition', 'crates/low/specs/S.antt'),
+                              ('a proof that is gone', 'crates/low/proofs/a/one/'), ('a library below', 'crates/low/out/rlib/low.rlib/toolchain/mir.json')):
+            path = os.path.join(folder, changed)
+            before = os.stat(path)
+            os.utime(path)
+            said, found = tried(folder)
+            checked('%s has changed since: rt ci is asked' % what, not found and 'a crate is not proved, so nothing is tried' in said, said)
+            os.utime(path, ns=(before.st_atime_ns, before.st_mtime_ns))
+        checked('as before, they are taken', tried(folder)[1] == {'high/of_high': 'refused'})
+
+
 UNDECIDED = '# undecided: only a stored answer refuses it\n'
 
 # What becomes of each edit, and a body with more than one line that it can be made in.
@@ -232,4 +252,4 @@ def logged():
 
 
 if __name__ == '__main__':
-    sys.exit(counted(chosen, kinds, answers, logged))
+    sys.exit(counted(chosen, taken, kinds, answers, logged))

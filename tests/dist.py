@@ -440,7 +440,7 @@ def part_of(job, key, margin):
 def jobs_text():
     """The jobs of docs/RECIPES.md for GitHub and for GitLab, and the commands that write the scripts which these call."""
     text = text_of('docs', 'RECIPES.md')
-    jobs = re.findall(r'^```yaml\n(.*?)^```', text.partition('\n### A check in CI\n')[2].partition('\n## ')[0], re.S | re.M)
+    jobs = re.findall(r'^```yaml\n(.*?)^```', text.partition('\n## A check in CI\n')[2].partition('\n## ')[0], re.S | re.M)
     return jobs, '\n'.join(command for command, _ in steps(text) if re.match(r'cat > (review|results|quality)\.sh ', command))
 
 

@@ -4,7 +4,7 @@
 Nothing here is clever: whether a node takes over another is asked for each pair and each step, request by request, by what
 tests/meaning.py says is allowed. A node is a tuple of a kind, a name, a scope and groups. Its kind is `u` or `g` (a principal,
 whose scope is None), `ClusterRole` or `Role`, or `*` for everything in the scope. A scope is a namespace, or the empty text for
-the whole cluster. Only the one asked about has groups.
+the whole cluster. Its groups are those that Group documents give a user; the one asked about may be given more.
 """
 
 import collections
@@ -178,10 +178,17 @@ class Export:
         self.grants = [*self.numbered_grants()]
         keys = {key_of(subject, home) for _, home, _, subjects in self.bound() for subject in subjects} - {None}
         keys |= {'u:' + account(*name[1:]) for name in self.last if name[0] == 'ServiceAccount'}
-        self.principals = [node_of(key) for key in sorted(keys)]
+        self.listed = [(item['metadata']['name'], item.get('users') or []) for item in items if item['kind'] == 'Group']
+        keys |= {'u:' + user for _, users in self.listed for user in users}
+        self.principals = [self.named(key) for key in sorted(keys)]
         self.homes = sorted({home for kind, home, _ in self.bindings if kind == 'RoleBinding'})
         self.nodes = self.principals + [*self.nodes_in_scopes()]
         self.known_holdings, self.known, self.ways = {}, {}, {}
+
+    def named(self, key, groups=()):
+        """The user or group of a key, with the groups that documents give it beside these."""
+        documents = {group for group, users in self.listed if key[0] == 'u' and key[2:] in users}
+        return node_of(key, documents.union(groups))
 
     def bound(self):
         for kind, home, name in self.bindings:
@@ -302,7 +309,8 @@ class Ways:
 
 
 def ways_of(given, steps, who=None):
-    """These are kept, since most questions about an export share them. A principal without groups is there anyway."""
+    """These are kept, since most questions about an export share them. A principal with no groups but those of documents is
+    there anyway."""
     asked = tuple(steps), None if who in given.principals else who
     if asked not in given.ways:
         given.ways[asked] = Ways(given, *asked)
@@ -320,7 +328,7 @@ def line(*fields):
 
 def paths(given, asked, groups=(), steps=STEPS):
     """The lines of `paths`."""
-    who = node_of(asked, groups)
+    who = given.named(asked, groups)
     ways = ways_of(given, steps, who)
     numbers = ways.reached([who])
     for node in in_order(numbers):

@@ -25,6 +25,7 @@ from common import PROGRAM, TOP, V1, V1BETA1, bare
 
 RBAC = 'rbac.authorization.k8s.io'
 RBAC_VERSIONS = V1, V1BETA1
+USERS_V1 = 'user.openshift.io/v1'
 DEEPEST = 127
 
 
@@ -123,6 +124,7 @@ is_catalogue = has(groupVersion=is_group_version, resources=may(are(is_api_resou
 is_listed = has(group=may(is_text), resource=is_text, namespaced=may(is_flag))
 is_universe = has(principals=may(are(is_principal)), resources=may(are(is_listed)),
                   **{field: may(is_texts) for field in ('namespaces', 'verbs', 'names', 'urls')})
+is_group = has(users=may(are(is_name)))
 
 
 # ---- then what is refused, and in which documents
@@ -152,6 +154,7 @@ M7 = first_refused('M7 bad subject %d', 'subjects', is_subject)
 M8 = refused('M8 bad selector', may(is_aggregation), 'aggregationRule')
 M9 = refused('M9 bad API resource list', is_catalogue)
 M10 = refused('M10 bad universe', is_universe)
+M13 = refused('M13 bad group', is_group)
 RBAC_KINDS = {
     'Role': (M4, M5_ROLE),
     'ClusterRole': (M4, M5_CLUSTER_ROLE, M8),
@@ -165,9 +168,11 @@ TABLE = {
     ('v1', 'APIResourceList'): (M9,),
     (None, 'APIResourceList'): (M9,),
     ('rbacaudit/v1', 'Universe'): (M10,),
+    (USERS_V1, 'Group'): (M4, M13),
 }
 # Each list, and which kind its items have that don't say theirs.
 LISTS = {('v1', 'List'): None, ('v1', 'NamespaceList'): 'Namespace', ('v1', 'ServiceAccountList'): 'ServiceAccount',
+         (USERS_V1, 'GroupList'): 'Group',
          **{(version, kind + 'List'): kind for version in RBAC_VERSIONS for kind in RBAC_KINDS}}
 NEED_A_VERSION = {kind for _, kind in [*TABLE, *LISTS]} - {'APIResourceList'}
 
@@ -266,6 +271,7 @@ ALONE = [
     of_kind('rbacaudit/v1', 'Universe', {
         'principals': [{'user': 'b', 'groups': ['c', '']}, {'group': 'c'}], 'namespaces': ['', 'dev'], 'verbs': ['get'],
         'resources': [{'group': 'apps', 'resource': 'pods', 'namespaced': False}], 'names': ['', 'c'], 'urls': ['/x']}),
+    of_kind(USERS_V1, 'Group', {'metadata': METADATA, 'users': ['b', 'c']}),
     of_kind('x.io/v1', 'Gadget', {'metadata': 5, 'rules': {}, 'items': 5}),
 ]
 
@@ -292,7 +298,7 @@ SHAPES = [MISSING, None, True, 5, '', 'x', [], [None], ['x'], [[]], [['x']], [{}
 # What a field may be mistaken for, by its name.
 WORDS = {
     'apiVersion': ['v1', 'v2', V1, V1BETA1, V1 + 'alpha1', V1 + 'beta', V1BETA1 + '0', V1BETA1 + ' ', 'v1beta1', RBAC + '/', RBAC,
-                   'rbacaudit/v1', 'Rbac.authorization.k8s.io/v2', ' v1'],
+                   'rbacaudit/v1', USERS_V1, 'user.openshift.io/v2', 'Rbac.authorization.k8s.io/v2', ' v1'],
     'kind': [*sorted(NEED_A_VERSION), 'APIResourceList', 'User', 'Group', 'user', 'Gadget', 'APIVersions'],
     'operator': ['In', 'NotIn', 'Exists', 'DoesNotExist', 'in', 'Gt'],
     'groupVersion': ['v1', 'apps/v1', 'a/b/c', '/', '//', '/v1', 'apps/'],
@@ -561,9 +567,11 @@ def all_tried(seed, count):
 
 
 def disagreeing_rows():
-    """The documents of rows.json, which others worked out, where the table above disagrees."""
-    with open(os.path.join(TOP, 'tests', 'rows.json'), encoding='utf-8') as file:
-        rows = json.load(file)['documents']
+    """The documents of rows.json and rows_groups.json, which others worked out, where the table above disagrees."""
+    rows = []
+    for name in ('rows.json', 'rows_groups.json'):
+        with open(os.path.join(TOP, 'tests', name), encoding='utf-8') as file:
+            rows += json.load(file)['documents']
     for row in rows:
         fault = fault_of(row['document'].encode())
         if (fault and 'file 1' + fault) != row['fault']:
@@ -582,7 +590,7 @@ def main(seed, count):
         wrong += share_wrong
     for got, right, texts in wrong[:5]:
         print('FAIL wanted %r, got %r for %s' % (right, got, ' and '.join(map(repr, texts))))
-    refusals = ['accepted'] + ['M%d' % number for number in range(1, 11)]
+    refusals = ['accepted'] + ['M%d' % number for number in (*range(1, 11), 13)]
     never = [name for name in refusals if not met[name]]
     for name in never:
         print('FAIL no document met %s' % name)

@@ -218,6 +218,37 @@ def each_binding():
                     ('g:dev', 'RoleBinding/a-namespace-with-a-rather-long-name/b', 1))))
 
 
+def of_group(name, *users):
+    return item('Group', {'name': name}, 'user.openshift.io/v1', users=[*users])
+
+
+def of_member():
+    """Somebody whom a document lists in a group."""
+    return Case('can-i of a member', ['can-i', '--as', 'carol-who-has-a-rather-long-name', 'get', 'pods'],
+                export(*WORKED, of_group('dev', 'alice', 'carol-who-has-a-rather-long-name')), 0, 'yes\n')
+
+
+def few_members():
+    """Members of a group that two bindings name, one of which also names a member."""
+    why = '\tClusterRole/admin\tClusterRole/%s\t1\t%%d\n' % LONG
+    more = item('RoleBinding', {'namespace': 'dev', 'name': 'c'}, roleRef=role_ref('ClusterRole', 'admin'), subjects=[{'kind': 'Group', 'name': 'dev'}])
+    return Case('who-can --members --every --why', ['who-can', '-n', 'dev', '--members', '--every', '--why', 'get', 'pods'],
+                export(*WORKED, more, of_group('dev', 'carol-who-has-a-rather-long-name', 'alice'), of_group('dev'), of_group('ops', 'bob')), 0,
+                ''.join('%s\t%s%s' % (who, binding, why % place) for who, binding, place in (
+                    ('g:dev', 'ClusterRoleBinding/a', 1), ('u:alice', 'ClusterRoleBinding/a', 2), ('g:dev', 'RoleBinding/dev/c', 1),
+                    ('u:carol-who-has-a-rather-long-name', 'ClusterRoleBinding/a', 1), ('u:alice', 'RoleBinding/dev/c', 1),
+                    ('u:carol-who-has-a-rather-long-name', 'RoleBinding/dev/c', 1))))
+
+
+def long_members():
+    """Members with ever longer names, so that memory is taken after a piece was written."""
+    names = [letter * size for letter, size in (('a', 40_000), ('b', 40_000), ('c', 150_000), ('d', 600_000))]
+    given = export(item('ClusterRole', {'name': 'r'}, rules=[PODS]), of_group('dev', *names),
+                   item('ClusterRoleBinding', {'name': 'b'}, roleRef=role_ref('ClusterRole', 'r'), subjects=[{'kind': 'Group', 'name': 'dev'}]))
+    return Case('members with long names', ['who-can', '--members', 'get', 'pods'], given, 0,
+                ''.join('%s\tClusterRoleBinding/b\n' % who for who in ['g:dev', *('u:' + name for name in names)]))
+
+
 def few_rules():
     return Case('rules', ['rules', CI_KEY], export(*WORKED), 0, DEV_RULE % 1)
 
@@ -462,6 +493,8 @@ def answers():
     yield few_holders()
     yield few_reasons()
     yield each_binding()
+    yield of_member()
+    yield few_members()
     yield Case('who-can --any-name', ['who-can', '-n', 'dev', '--any-name', 'delete', 'pods'], export(*WORKED), 0, DELETERS)
     yield Case('can-i --group', ['can-i', '--as', 'kim', '--group', 'a-group-with-a-rather-long-name,', '--group', 'dev', 'get', 'pods'],
                export(*WORKED), 0, 'yes\n')
@@ -553,7 +586,7 @@ def faults(room):
     yield Case('U11', ['unused', '--log', '-'], b'', 2,
                err='U11 --log - may be given once, and needs a FILE: standard input can be read only once')
     yield Case('U9', ['who-can', '--indirect', '--why', 'get', 'pods', missing], b'', 2,
-               err='U9 --indirect excludes --anywhere, --any-name, --every and --why; --steps needs --indirect')
+               err='U9 --indirect excludes --anywhere, --any-name, --every, --members and --why; --steps needs --indirect')
     yield Case('a word that is not UTF-8', ['can-i', '--as', b'al\xffce', 'get', 'pods'], b'', 2, err='argument 3: not UTF-8')
     yield Case('I1', [*alice, missing], b'', 2, err='file 1: I1 read fault')
     yield Case('I2', [*alice, '/dev/zero'], b'', 2, err='file 1: I2 too long', step=7)
@@ -562,6 +595,7 @@ def faults(room):
     yield Case('M8', ['matrix'], export(*WORKED, bad_selector), 2, err='file 1 item 9: M8 bad selector')
     yield changed(room, 'M5 of the second side', WORKED, [*WORKED, bad_rule], 2, b'', 'file 2 item 9: M5 bad rule 2')
     yield of_sides(room, 'M5 of what is put over', {'before': WORKED, 'without': WORKED[4:5], 'with': [bad_rule]}, 2, b'', 'file 3 item 1: M5 bad rule 2')
+    yield Case('M13', alice, export(*WORKED, of_group('dev', 'alice', '')), 2, err='file 1 item 9: M13 bad group')
     yield Case('M11', ['who-can', 'get', 'pods'], many_grants(), 2, err='M11 too many grants', step=251)
     yield Case('P3', ['matrix'], export(*WORKED, universe(urls=['x'])), 2, err='P3 bad target')
     yield Case('P4', ['matrix'], many_targets(), 2, err='P4 universe too large', step=101)
@@ -600,7 +634,7 @@ def beginnings(shim, cases):
 def refused_memory(shim, room):
     """Every growth of memory in turn, and every growth from each on; two sweeps at a time."""
     cases = [(case, False) for case in (*answers(), *examples(), *changes(room), *of_logs(room), *matrices(), *parser_texts(), *faults(room))]
-    cases += [(case, True) for case in (long_matrix(), long_bindings(), long_holders(), long_rules(), long_paths(), long_ways(), long_changes(room),
+    cases += [(case, True) for case in (long_matrix(), long_bindings(), long_holders(), long_members(), long_rules(), long_paths(), long_ways(), long_changes(room),
                                         Case(*memory_logs.long(room)))]
     cases += [(long_lists(), False), (Case(*memory_logs.long_needs(room)), False)]
     begins = [*beginnings(shim, [case for case, _ in cases])]
@@ -637,7 +671,7 @@ def endless_input(shim):
 
 def failed_writes(shim, room):
     """Each write in turn: of a long text as it is written in pieces, and of short ones that are taken at once or byte by byte."""
-    shorts = few_holders(), few_reasons(), each_binding(), few_rules(), few_paths(), few_ways(), few_changes(room), few_lists(), findings(), odd_names(), \
+    shorts = few_holders(), few_reasons(), each_binding(), few_members(), few_rules(), few_paths(), few_ways(), few_changes(room), few_lists(), findings(), odd_names(), \
         Case(*memory_logs.few(room)), Case(*memory_logs.needs(room))
     longs = (Case(*memory_logs.long(room)), 0), (long_matrix(), 0), (long_matrix(), 10_000), (long_rules(), 0), (long_changes(room), 0), (long_lists(), 10_000), \
         (Case(*memory_logs.long_needs(room)), 10_000)
@@ -718,7 +752,7 @@ def pipes():
 def disks_with_room(folder):
     """A disk with room for so many bytes: it gets them, and the line says how many."""
     listing = long_matrix()
-    shorts = can_i(), few_holders(), few_reasons(), few_rules(), few_paths(), few_changes(folder), few_lists(), \
+    shorts = can_i(), few_holders(), few_reasons(), few_members(), few_rules(), few_paths(), few_changes(folder), few_lists(), \
         Case(*memory_logs.few(folder)), Case(*memory_logs.needs(folder))
     rooms = [(case, size) for case in shorts for size in range(len(case.whole[1]) + 1)]
     rooms += [(listing, size) for size in (FULL - 1, FULL, FULL + 1, 2 * FULL, len(listing.whole[1]) - 1)]

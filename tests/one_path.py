@@ -58,7 +58,7 @@ def words_of(draw, node):
 
 def asked_end(draw, given, steps, key, groups):
     """The options for one end: mostly a node that the one asked about comes to, otherwise any node, or one near it."""
-    who = escalation.node_of(key, groups)
+    who = given.named(key, groups)
     numbers = escalation.ways_of(given, steps, who).reached([who])
     found = [node for node in numbers if node != who]
     if not found or draw.random() < 0.2:

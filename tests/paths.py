@@ -137,6 +137,13 @@ class World:
         metadata = {'name': self.draw.choice(self.accounts), 'namespace': self.draw.choice([*self.namespaces, ''])}
         return {'apiVersion': 'v1', 'kind': 'ServiceAccount', 'metadata': metadata}
 
+    def group(self):
+        """A Group document: some are of groups that others are of too, and list a user twice."""
+        draw = self.draw
+        users = [draw.choice(self.users + ['listed']) for _ in range(draw.choice([0, 1, 2, 3]))]
+        return {'apiVersion': 'user.openshift.io/v1', 'kind': 'Group', 'metadata': {'name': draw.choice(self.teams + ['told'])},
+                'users': users or draw.choice([[], None])}
+
     def chain(self):
         """Each of some principals has a role by which it takes over the next one, or by which it binds such a role. In some chains
         the one before it has this role too, so that there are several ways of one length."""
@@ -191,6 +198,25 @@ class World:
         for home in some(draw, [*self.homes, None]):
             yield self.bound(names[0], home, [('user', name, None) for name in some(draw, self.users, 2)])
 
+    def crowd(self):
+        """Some principals share a role that names what it takes over: each by a binding of its own, so that bindings are alike and a
+        list of words is taken by many; or all by one binding, which names most of them twice."""
+        draw = self.draw
+        ends = [('user', name, None) for name in self.users] + [('group', name, None) for name in self.teams]
+        ends += [('account', name, home) for name in self.accounts for home in self.namespaces]
+        role = self.narrow('crowd', draw.choice([row for row in TABLE if row.of == 'NAME']), '')
+        role['rules'][0]['resourceNames'] = [*dict.fromkeys([name for _, name, _ in ends] + some(draw, self.roles))]
+        yield role
+        home = draw.choice([*self.homes, None])
+        if draw.random() < 0.4:
+            # (from 32 subjects on, the first that names somebody is looked up)
+            yield self.bound('crowd', home, draw.choices(ends, k=draw.choice([31, 32, 33])))
+            return
+        for number, end in enumerate(ends):
+            bound = self.bound('crowd', draw.choice([home, home, None]), [end])
+            bound['metadata']['name'] = 'crowd%d' % number
+            yield bound
+
     def items(self):
         """Some objects are there twice, and the later one replaces the other."""
         draw = self.draw
@@ -199,8 +225,10 @@ class World:
         is_chain = draw.random() < 0.4
         items += self.chain() if is_chain else ()
         items += self.web() if draw.random() < 0.4 else ()
+        items += self.crowd() if draw.random() < 0.2 else ()
         items += [self.binding() for _ in range(draw.randint(0, 3) if is_chain else draw.randint(5, 12))]
         items += [self.account() for _ in range(draw.randint(0, 4))]
+        items += [self.group() for _ in range(draw.choice([0, 0, 1, 2, 4]))]
         draw.shuffle(items)
         return items
 
@@ -332,7 +360,7 @@ def items_of(text):
         item = {'kind': kind, **item}
         if item['kind'] == 'APIResourceList' or 'matchExpressions' in json.dumps(item.get('aggregationRule')):
             sys.exit('the definition knows neither API resource lists nor matchExpressions')
-        if item['kind'] in ('Role', 'ClusterRole', 'RoleBinding', 'ClusterRoleBinding', 'ServiceAccount'):
+        if item['kind'] in ('Role', 'ClusterRole', 'RoleBinding', 'ClusterRoleBinding', 'ServiceAccount', 'Group'):
             yield whole(item)
 
 
@@ -396,22 +424,22 @@ def broken_law(answers, given):
     for asked, lines in ways:
         if not follow(lines, [escalation.shown(escalation.node_of(asked.who))]):
             return 'paths %s: following the node before does not lead there' % asked.who
-        if lines and not powers & {*itertools.product(asked.steps, keys_of(asked))}:
+        if lines and not powers & {*itertools.product(asked.steps, keys_of(asked, given))}:
             return 'paths %s: has nodes, but no powers' % asked.who
     for asked, lines in held:
         if not follow(lines, []):
             return 'who-can %s %s: following the node after does not lead there' % (asked.verb, asked.target)
     for (asked, lines), (other, nodes) in itertools.product(held, ways):
-        is_plain = not given_groups(other) and escalation.node_of(other.who) in given.principals
+        is_plain = not given_groups(other) and given.named(other.who) in given.principals
         if is_plain and other.steps == asked.steps and least(other, nodes, request_of(asked), given) != number_of(other, lines):
             return 'paths %s and who-can %s %s do not agree' % (other.who, asked.verb, asked.target)
     return None
 
 
-def keys_of(asked):
+def keys_of(asked, given):
     """The key of the one asked about, and those of its groups."""
     name = asked.who[2:]
-    groups = {name} if asked.who.startswith('g:') else groups_of(name, given_groups(asked))
+    groups = {name} if asked.who.startswith('g:') else groups_of(name, given.named(asked.who, given_groups(asked)).groups)
     return {'g:' + group for group in groups} | {asked.who}
 
 

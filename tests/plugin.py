@@ -2,7 +2,7 @@
 
 plugin_room.py has the stand-in, plugin_exports.py the exports, plugin_questions.py the questions, plugin_paths.py those of paths,
 plugin_remarks.py what is said beside answers, plugin_changes.py and plugin_manifests.py changes and manifests, plugin_advice.py what is said behind errors,
-plugin_server.py both once more with kubectl itself, plugin_terminal.py what a terminal shows, plugin_show.py formats and summaries,
+plugin_groups.py who is in a group, plugin_server.py both once more with kubectl itself, plugin_terminal.py what a terminal shows, plugin_show.py formats and summaries,
 plugin_sarif.py what code hosts get, plugin_access.py one person's access and graphs of paths, plugin_unused.py audit logs, plugin_report.py reports, plugin_states.py what manifests
 alone don't know of a cluster, plugin_law.py the law of that, and plugin_applied.py what kubectl would do and the files don't say.
 Here are the tools that the plugin needs, its texts, completions and man page, and make. What is
@@ -23,6 +23,7 @@ import plugin_advice
 import plugin_applied
 import plugin_changes
 import plugin_exports
+import plugin_groups
 import plugin_law
 import plugin_least
 import plugin_manifests
@@ -305,7 +306,7 @@ def told(words_, folder, tools_=os.path.dirname(PROGRAM)):
 
 
 if __name__ == '__main__':
-    sys.exit(tested(*plugin_exports.CHECKS, *plugin_questions.CHECKS, *plugin_paths.CHECKS, *plugin_remarks.CHECKS, *plugin_changes.CHECKS, *plugin_manifests.CHECKS, *plugin_advice.CHECKS,
+    sys.exit(tested(*plugin_exports.CHECKS, *plugin_groups.CHECKS, *plugin_questions.CHECKS, *plugin_paths.CHECKS, *plugin_remarks.CHECKS, *plugin_changes.CHECKS, *plugin_manifests.CHECKS, *plugin_advice.CHECKS,
                     *plugin_server.CHECKS, *plugin_terminal.CHECKS, *plugin_show.CHECKS, *plugin_sarif.CHECKS, *plugin_access.CHECKS, *plugin_report.CHECKS,
                     *plugin_unused.CHECKS, *plugin_least.CHECKS, *plugin_states.CHECKS, *plugin_applied.CHECKS, *plugin_law.CHECKS,
                     tools, script, make_run, completions, in_kubectl, man_page))

@@ -133,7 +133,8 @@ def tables(it):
     it.lines('calls')
     it.run('access', 'u:dana@example.com')
     calls = it.lines('calls')
-    it.checked('it reads what rules reads', len(calls) == 2, calls)
+    it.run('rules', 'u:dana@example.com')
+    it.checked('it reads what rules reads', sorted(calls) == sorted(it.lines('calls')) and len(calls) == 3, calls)
     company(it)
     it.expect('verbs beside the usual ones', ['access', '--export', 'prod', '-n', 'payments', 'g:payments-leads'], 0, LEADS,
               SCOPED % 'clusterroles.rbac.authorization.k8s.io')

@@ -16,6 +16,7 @@ import textwrap
 import time
 
 from common import TOP
+from plugin_groups import openshift
 from plugin_room import (CAUTION, CI, METRICS, PLUGIN, RBAC, READ, REFUSAL, STAND_IN, UNLISTED, WHOLE, api_groups,
                          document, in_each_shell, served)
 
@@ -186,12 +187,13 @@ LISTED = re.compile(r'\|get\|([a-z.,0-9]+)\|')
 
 @in_each_shell
 def exporter(it):
-    """The ClusterRole of export --help is docs/EXPORT.md's, and has just what the calls ask for; README.md
-    has it in a sentence."""
+    """The ClusterRole of export --help is docs/EXPORT.md's, and has just what the calls ask for, on OpenShift
+    too; README.md has it in a sentence."""
     role = textwrap.dedent(re.search(r'^  apiVersion: .*?\n\n', it.run('export', '--help')[1],
                                      re.S | re.M)[0]).strip()
     with open(os.path.join(TOP, 'docs', 'EXPORT.md'), encoding='utf-8') as file:
         it.checked('it is in EXPORT.md', textwrap.indent(role, '    ') in file.read(), role)
+    openshift(it)
     it.run('export', 'prod')
     calls = it.lines('calls')
     names = {name for call in calls for listed in LISTED.findall(call)
@@ -203,7 +205,7 @@ def exporter(it):
     given = {name + '.' * (group != '""') + group.strip('"') for (group,),
              listed in zip(groups, lists) for name in listed}
     it.checked('it lists what the calls list', given == names
-               and verbs == [('list',), ('list',), ('get',)], (given, names))
+               and verbs == [('list',), ('list',), ('list',), ('get',)], (given, names))
     urls = re.search(r'nonResourceURLs: \[(.*)\]', role)[1].split(', ')
     with open(os.path.join(TOP, 'README.md'), encoding='utf-8') as file:
         said = re.search(r'An export needs `list` on (.*?);', file.read(), re.S)[1]

@@ -41,7 +41,7 @@ def paths(it):
         it.lines('calls')
         it.run('paths', *line)
         got = it.lines('calls')
-        it.checked('paths %s reads roles, bindings and accounts alone, each once' % line, len(got) == 3, got)
+        it.checked('paths %s reads roles, bindings, accounts, and whether there are groups alone, each once' % line, len(got) == 4, got)
     for words_, wanted in ((['-o', 'wide'], PATHS_WIDE), (['--output=table', '--color', 'always'], PATHS_WIDE), (['-oname'], IDLER + '\n')):
         it.expect('paths %s' % words_, ['paths', '--export', 'prod', CI_KEY, *words_], 0, wanted)
     status, out, err = got = it.run('paths', '--export', 'prod', developers, '-o', 'json')

@@ -185,8 +185,8 @@ def rules(it):
                   DANA.rstrip('\n') + '\tClusterRole/cluster-admin\tClusterRole/cluster-admin\t1\t1\n'
                   'u:system:serviceaccount:shop:ci\tRoleBinding/shop/ci-deploys\tRole/shop/deployer'
                   '\tRole/shop/deployer\t1\t1\n')
-    for line, calls in (([developers], 2), ([developers, '-n', 'shop'], 3), ([CI_KEY], 3),
-                        ([CI_KEY, '-n', 'shop'], 4), ([CI_KEY, '-A', '-n', 'shop'], 3)):
+    for line, calls in (([developers], 2), ([developers, '-n', 'shop'], 3), ([CI_KEY], 4),
+                        ([CI_KEY, '-n', 'shop'], 5), ([CI_KEY, '-A', '-n', 'shop'], 4)):    # (of a user, also whether there are groups)
         it.lines('calls')
         it.run('rules', *line)
         got = it.lines('calls')
@@ -426,7 +426,7 @@ def words(it):
                        (['paths', '-A', 'u:kim'], '-A'), (['paths', '--why', 'u:kim'], '--why'),
                        (['paths', '-q', 'u:kim'], '-q'), (['paths', '--export', 'x', 'u:kim'], 'there is no folder x'),
                        *((['who-can', '--indirect', *more, 'get', 'pods'], said) for more, said in (
-                           (['--why'], 'U9 '), (['--every'], 'U9 '), (['--any-name'], 'U9 '), (['--anywhere'], 'U9 '), (['--steps', 'run,'], 'U8 '),
+                           (['--why'], 'U9 '), (['--every'], 'U9 '), (['--members'], 'U9 '), (['--any-name'], 'U9 '), (['--anywhere'], 'U9 '), (['--steps', 'run,'], 'U8 '),
                            (['--steps', 'walk'], 'rbacaudit: U8 steps are %s\n' % ', '.join(STEPS)), (['--indirect'], '--indirect'), (['-q'], '-q'),
                            (['--as', 'kim'], '--as'), (['--export', 'x'], 'there is no folder x'))),
                        (['who-can', '--steps', 'run', 'get', 'pods'], 'U9 '), (['who-can', '--indirect', 'get'], '<TARGET>'), (['paths', '--indirect', 'u:kim'], '--indirect'),

@@ -93,7 +93,7 @@ def company_report(it):
     it.checked('groups', rows_in(parts[TITLES[5]]) == [[key] for key in GROUPS], parts[TITLES[5]])
     misses = parts[TITLES[6]][0]
     it.checked('what it misses', all(line.startswith('- ') for line in misses) and "- Findings about Kubernetes' own objects are left out: `2`." in misses
-               and any("don't record who is in a group" in line for line in misses) and any('Aggregated roles are stale' in line for line in misses), misses)
+               and any('Only Group documents tell who is in a group' in line for line in misses) and any('Aggregated roles are stale' in line for line in misses), misses)
     for title, (_, _, commands) in parts.items():
         for command in commands:
             it.checked('%s: its command is one' % title, is_command(it, command), it.run(*command.split(' ')[2:]))

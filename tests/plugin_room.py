@@ -58,6 +58,7 @@ case $line in
     "|get|namespaces|shop|-o|json") file=namespaces-shop ;;
     "|get|serviceaccounts|--all-namespaces|-o|json") file=accounts ;;
     "|get|serviceaccounts|-n|shop|-o|json") file=accounts-shop ;;
+    "|get|groups.user.openshift.io|-o|json") file=groups ;;
     *) printf '%s\n' "$line" >> "$ROOM/strange"; exit 97 ;;
 esac
 case ,$TROUBLE, in
@@ -81,6 +82,7 @@ case ,$TROUBLE, in
     *",hang $file,"*) echo $$ > "$ROOM/hangs"; head -c 40 "$ROOM/served/$file"; exec sleep 300 ;;
     *",slow,"*) echo begun >> "$ROOM/course"; sleep 0.3; echo ended >> "$ROOM/course" ;;
 esac
+[ -e "$ROOM/served/$file" ] || { echo 'Error from server (NotFound): the server could not find the requested resource' >&2; exit 1; }
 exec cat "$ROOM/served/$file"
 '''
 RBAC = 'rbac.authorization.k8s.io'

@@ -46,7 +46,7 @@ STEPS = ('impersonate', 'token', 'run', 'exec', 'secrets', 'nodes', 'bind', 'esc
          'bootstrap', 'volumes', 'namespaces')
 BAD_STEP = b'rbacaudit: U8 steps are impersonate, token, run, exec, secrets, nodes, bind, escalate, certificates, webhooks, ' \
            b'apiservices, bootstrap, volumes, namespaces\n'
-BAD_INDIRECT = b'rbacaudit: U9 --indirect excludes --anywhere, --any-name, --every and --why; --steps needs --indirect\n'
+BAD_INDIRECT = b'rbacaudit: U9 --indirect excludes --anywhere, --any-name, --every, --members and --why; --steps needs --indirect\n'
 BAD_END = b'rbacaudit: U10 --to takes u:USER, g:GROUP, ClusterRole/NAME, Role/NS/NAME or *; -n NS needs one of the last three\n'
 # What no line of `paths` has as its second field, and a namespace that nothing is asked for in.
 NO_ENDS = [*(['--to=' + to] for to in (
@@ -60,7 +60,7 @@ ENDS = [*(['--to', to] for to in ('u:kim', 'g:kim', 'u:u:', 'g: ', 'u:/', 'Clust
         ['--to=*', '-n', 'dev'], ['--to', 'ClusterRole/a', '--namespace', '*'], ['--to', 'Role/dev/a', '-n', 'dev'], ['--to', 'Role/dev/a/b', '-n', 'dev'],
         *(['--to', to, '--namespace='] for to in ('u:kim', 'g:kim', 'ClusterRole/a', 'Role/a/b', '*')), ['--to', '*', '--steps', 'run']]
 # Options of `who-can` that don't go together.
-NO_WAYS = [*(['--indirect', *options] for count in range(1, 5) for options in itertools.combinations(['--anywhere', '--any-name', '--every', '--why'], count)),
+NO_WAYS = [*(['--indirect', *options] for count in range(1, 6) for options in itertools.combinations(['--anywhere', '--any-name', '--every', '--members', '--why'], count)),
            ['--why', '--indirect'], ['-A', '--anywhere', '--indirect'], ['--indirect', '--steps', 'run', '--every'], ['--steps', 'run'],
            ['--steps', 'run', '--why'], ['--steps=' + ','.join(STEPS), '-A']]
 
@@ -230,7 +230,7 @@ def help_and_usage():
         checked('help of universe says "%s"' % said.decode(), said in run(['universe', '--help']).stdout)
     for said in (b'--before <FILE>', b'--after <FILE>', b'--without <FILE>', b'--with <FILE>', b'eight fields, joined by tabs'):
         checked('help of diff says "%s"' % said.decode(), said in run(['diff', '--help']).stdout)
-    for option in (b'--in-namespace', b'--anywhere', b'--any-name', b'--every', b'--why', b'--indirect', b'--steps <STEPS>', b'eleven fields'):
+    for option in (b'--in-namespace', b'--anywhere', b'--any-name', b'--every', b'--members', b'--why', b'--indirect', b'--steps <STEPS>', b'eleven fields'):
         checked('help of who-can names %s' % option.decode(), option in run(['who-can', '--help']).stdout)
     for said in (b'--only <CODES>', b'--skip-system', b'The exit status is 1 if a finding is listed', b'rbacaudit lint --only L1,L6 ',
                  b'rbacaudit lint --skip-system '):
@@ -259,7 +259,8 @@ def help_and_usage():
                   ['can-i', '--as', 'a', '--as', 'b', 'get', 'pods'], ['can-i', '--as', 'a', '-A', '-A', 'get', 'pods'],
                   ['can-i', '--as', '-a', 'get', 'pods'], ['who-can', 'get'], ['who-can', '--as', 'alice', 'get', 'pods'],
                   ['who-can', '--limit', '1', 'get', 'pods'],
-                  ['who-can', '--every', '--every', 'get', 'pods'], ['who-can', '--every=x', 'get', 'pods'], ['who-can', '--anywhere=x', 'get', 'pods'],
+                  ['who-can', '--every', '--every', 'get', 'pods'], ['who-can', '--every=x', 'get', 'pods'], ['who-can', '--members', '--members', 'get', 'pods'],
+                  ['who-can', '--members=x', 'get', 'pods'], ['can-i', '--as', 'a', '--members', 'get', 'pods'], ['rules', '--members', 'u:a'], ['who-can', '--anywhere=x', 'get', 'pods'],
                   ['who-can', '--any-name', '--any-name', 'get', 'pods'], ['who-can', '--any-name=x', 'get', 'pods'], ['lint', '--any-name'],
                   ['can-i', '--as', 'a', '--any-name', 'get', 'pods'], ['rules', '--any-name', 'u:a'], ['who-can', '--only', 'L1', 'get', 'pods'],
                   ['lint', '--only', 'L1', '--only', 'L2'], ['lint', '--only', '-L1'], ['matrix', '--only', 'L1'],
@@ -365,11 +366,13 @@ def little_memory():
 
 
 def rows():
-    """The worked rows of rows.json and of rows_paths.json, each under the rule that it shows."""
+    """The worked rows of rows.json, of rows_paths.json and of rows_groups.json, each under the rule that it shows."""
     with open(os.path.join(TOP, 'tests', 'rows.json'), encoding='utf-8') as file:
         table = json.load(file)
-    with open(os.path.join(TOP, 'tests', 'rows_paths.json'), encoding='utf-8') as file:
-        table['lines'] += json.load(file)['lines']
+    for name in ('rows_paths.json', 'rows_groups.json'):
+        with open(os.path.join(TOP, 'tests', name), encoding='utf-8') as file:
+            for kind, more in json.load(file).items():
+                table[kind] += more
     answers(table['answers'])
     lines(table['lines'])
     changes(table['changes'])
@@ -388,11 +391,13 @@ def answers(table):
 
 
 def lines(table):
-    """Commands over an export, each with its status and the lines that it writes."""
+    """Commands over an export, which may have more documents, each with its status and the lines that it writes."""
     for row in table:
-        for line, status, wanted in row['asks']:
-            expect('%s %s' % (row['rule'], line), line.split(' '), status, ''.join(l + '\n' for l in wanted).encode(),
-                   given=export(*row['items']))
+        with tempfile.TemporaryDirectory() as room:
+            files = put_files(room, 'file', [row['items'], *map(json.dumps, row['more'])])[1:] if 'more' in row else []
+            for line, status, wanted in row['asks']:
+                expect('%s %s' % (row['rule'], line), line.split(' ') + files, status, ''.join(l + '\n' for l in wanted).encode(),
+                       given=export(*row['items']))
 
 
 def changes(table):

@@ -16,6 +16,7 @@ import time
 TOP = os.path.dirname(os.path.dirname(os.path.abspath(__file__)))
 # Of a crate's folder, what was made there and the edits.
 LEFT_OUT = 'out', 'must-fail', 'wrong-bodies'
+SOURCES = 'src', 'specs', 'proofs'
 ENDING = signal.SIGINT, signal.SIGTERM, signal.SIGHUP
 
 
@@ -32,6 +33,23 @@ def with_below(names):
         if name in wanted:
             wanted.update(lines[name].split(':')[1].split())
     return {name: line for name, line in lines.items() if name in wanted}
+
+
+def library_of(crate):
+    """The folder in which `rt ci` leaves the library of a crate of this repository."""
+    return os.path.join(TOP, 'crates', crate, 'out', 'rlib')
+
+
+def changes_in(*folders):
+    """When each file and folder in these folders last changed, in nanoseconds."""
+    return [os.stat(os.path.join(at, name)).st_mtime_ns for folder in folders for at, _, files in os.walk(folder) for name in ('', *files)]
+
+
+def is_built(crate, below):
+    """Whether the library of this crate is there, and no older than the crate's sources and the libraries below it."""
+    made = changes_in(os.path.join(library_of(crate), crate + '.rlib'))
+    sources = (os.path.join(TOP, 'crates', crate, it) for it in SOURCES)
+    return bool(made) and min(made) >= max(changes_in(*sources, *map(library_of, below)))
 
 
 class Copy:
@@ -56,6 +74,15 @@ class Copy:
 
     def path(self, *names):
         return os.path.join(self.room, *names)
+
+    def take_built(self):
+        """Takes the libraries that `rt ci` left at the top, if all are there and no source has changed since; answers whether it did."""
+        if not all(is_built(name, line.split(':')[1].split()) for name, line in self.crates.items()):
+            return False
+        for name in self.crates:
+            os.mkdir(self.path('crates', name, 'out'))
+            os.symlink(library_of(name), self.path('crates', name, 'out', 'rlib'))
+        return True
 
     def __enter__(self):
         return self

@@ -9,8 +9,8 @@ listed in several runs, in the background. With --jobs at most so many checks ru
 
 With --right the right body is tried in place of each edit with answers of its own (edit.py): it has to be proved with these answers.
 
-`rt ci` over a copy builds the libraries, of which it proves only what hasn't passed on this machine. Then edits of different functions
-are tried together (together.py). An edit of no function's body `rt ci` tries by itself, as one of must-fail/. Each edit is told as
+The libraries are those that `rt ci` left at the top, if they are as new as the sources; otherwise `rt ci` over a copy builds them, of which
+it proves only what hasn't passed on this machine. Then edits of different functions are tried together (together.py). An edit of no function's body `rt ci` tries by itself, as one of must-fail/. Each edit is told as
 refused, as undecided (only a stored answer no longer fits, which says nothing of the contract), or as failed: not refused, or not
 read. An undecided edit has failed too, unless its own line UNDECIDED says so and the gate doesn't try it; so has an edit with this line
 that a goal refuses. With --mark these lines are written or taken away as each edit came out. The last line is `N passed, M failed`, and
@@ -120,7 +120,7 @@ def try_together(edits, tell, jobs=None):
     if not sets:
         return left
     with Copy(list(sets)) as copy, concurrent.futures.ThreadPoolExecutor(jobs or at_once()) as workers:
-        if copy.ci(lambda line: 'NOT PROVED' in line and print(line, end='', flush=True)):
+        if not copy.take_built() and copy.ci(lambda line: 'NOT PROVED' in line and print(line, end='', flush=True)):
             sys.exit('wrong-bodies: a crate is not proved, so nothing is tried')
         kit = Kit()
         crates = {name: Crate(kit, copy, name) for name in sets}

@@ -129,5 +129,5 @@ class Others(unittest.TestCase):
         self.assertEqual(Question('lint').parts(), (['cluster.json', 'namespaced.json'], []))
         question = Question('who-can', asked_in='dev')
         question.indirect = True
-        self.assertEqual(question.parts(), (['cluster.json', 'namespaced.json', 'api', 'accounts.json'], ['namespaces.json']))
+        self.assertEqual(question.parts(), (['cluster.json', 'namespaced.json', 'api', 'accounts.json', 'groups.json'], ['namespaces.json']))
         self.assertEqual(Options().export, '')
