@@ -29,8 +29,8 @@ _rbacaudit() {
             places=(verb text) rest=file
             ;;
         who-can)
-            options='-n,--namespace=text -A,--all-namespaces --in-namespace --subresource=text --anywhere --any-name --every --why
-                --indirect --steps=step -h,--help'
+            options='-n,--namespace=text -A,--all-namespaces --in-namespace --subresource=text --anywhere --any-name --every --members
+                --why --indirect --steps=step -h,--help'
             places=(verb text) rest=file
             ;;
         rules)

@@ -9,7 +9,7 @@ function __rbacaudit_options
             string split ' ' 'as= groups= group= n/namespace= A/all-namespaces in-namespace subresource= q/quiet why why-not h/help'
         case who-can
             echo '^(--(namespace|subresource|steps)|-[^-n]*[n])$'
-            string split ' ' 'n/namespace= A/all-namespaces in-namespace subresource= anywhere any-name every why indirect steps= h/help'
+            string split ' ' 'n/namespace= A/all-namespaces in-namespace subresource= anywhere any-name every members why indirect steps= h/help'
         case rules
             echo '^(--(groups|group|namespace)|-[^-n]*[n])$'
             string split ' ' 'groups= group= n/namespace= A/all-namespaces h/help'
@@ -110,6 +110,7 @@ complete -c rbacaudit -n '__rbacaudit_lacks why-not can-i' -l why-not -d 'After 
 complete -c rbacaudit -n '__rbacaudit_lacks anywhere who-can' -l anywhere -d 'Count the RoleBindings of all namespaces'
 complete -c rbacaudit -n '__rbacaudit_lacks any-name who-can' -l any-name -d 'Count rules limited to object names too'
 complete -c rbacaudit -n '__rbacaudit_lacks every who-can' -l every -d 'List each holder with every binding that grants it'
+complete -c rbacaudit -n '__rbacaudit_lacks members who-can' -l members -d 'List also the users whom Group documents put into these groups'
 complete -c rbacaudit -n '__rbacaudit_lacks why who-can' -l why -d 'After the binding, print why'
 complete -c rbacaudit -n '__rbacaudit_lacks indirect who-can' -l indirect -d 'List also who can take over a holder'
 complete -c rbacaudit -n '__rbacaudit_lacks steps who-can' -l steps -x -k \

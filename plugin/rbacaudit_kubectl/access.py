@@ -9,7 +9,7 @@ from .answer import Asking, ask_well, open_question
 from .documents import first_three
 from .escapes import bytes_of
 from .fields import POWER_GROUPS, POWER_RESOURCES, in_field, in_key, place_of, powers_of, rows_of, text_of, words_of
-from .options import choose_format
+from .options import choose_format, end_with_help
 from .processes import Session
 from .question import accept_words, check_cluster, read_question
 from .show import json_of, table_of
@@ -158,9 +158,7 @@ def access_command(session: Session, words: list[str]) -> int:
     """The command access, which asks as rules does."""
     options, question = read_question('access', words)
     if options.help:
-        from .help import help_of
-        print_text(help_of('access'))
-        return 0
+        end_with_help('access')
     choose_format(options, 'access')
     if not question.places:
         raise Refused('access needs <WHO>, which is u:NAME or g:NAME; kubectl rbacaudit access --help says more')
@@ -170,7 +168,7 @@ def access_command(session: Session, words: list[str]) -> int:
     accept_words(session, question)
     asking = open_question(session, options, question)
     from .remarks import find_stale, remark_on_stale
-    files, stale = [*question.files, *asking.files()], ', '.join(find_stale(asking))
+    files, stale = asking.all_files, ', '.join(find_stale(asking))
     line = [*question.line, *files]
     done = ask_well(asking, line, files)
     rows = rows_of(done.out)
@@ -179,7 +177,7 @@ def access_command(session: Session, words: list[str]) -> int:
         session.report(text)
     print_text(''.join(texts_of(asking, *accesses_of(rows, question.asked_in))))
     if stale:
-        remark_on_stale(asking, stale, line, files, done)
+        remark_on_stale(asking, stale, line, done)
     return 0
 
 

@@ -6,9 +6,11 @@ import json
 import os
 import re
 from collections.abc import Iterator
+from typing import Any
 
 from .answer import Asking
-from .documents import first_of, item_of, list_in, read_document, read_text, text_in, told
+from .documents import first_of, item_of, list_in, objects_in, read_document, read_text, text_in, told
+from .kubectl import OF_USERS
 from .manifests import BINDINGS, RBAC, ROLES
 from .processes import Session
 from .question import Question
@@ -17,7 +19,7 @@ from .question import Question
 SILENT = re.compile(r'[ \t]*(#.*)?\r?$|%')
 YAML = re.compile(r'(?!\s*(error|warning))((---|[ \t]*-)(\s|$)|[ \t]*[a-z][a-z0-9_./-]*:(\s|$))', re.I)
 VERSIONS = {'List': 'v1', 'Namespace': 'v1', 'ServiceAccount': 'v1', 'NamespaceList': 'v1', 'ServiceAccountList': 'v1',
-            'Universe': 'rbacaudit/v1', **dict.fromkeys((kind + more for kind in ROLES + BINDINGS for more in ('', 'List')),
+            'Universe': 'rbacaudit/v1', 'Group': OF_USERS, 'GroupList': OF_USERS, **dict.fromkeys((kind + more for kind in ROLES + BINDINGS for more in ('', 'List')),
                                                         '%sv1 or %sv1beta1' % (RBAC, RBAC))}
 AT_MOST = 'a file may have at most 67,108,864 bytes (64 MiB): '
 APART = '%s and ask rbacaudit about all %s, without this plugin'
@@ -31,7 +33,11 @@ WHO_USER = 'WHO is u:NAME for a user: '
 
 def find_culprit(path: str, item: int) -> str:
     """The object that a fault is about, an item of a file or the document itself (0), or '' if it has no name."""
-    found, kind = item_of(read_document(path), item)
+    return named(*item_of(read_document(path), item))
+
+
+def named(found: Any, kind: str) -> str:
+    """An object as messages have it, or '' if it has no name."""
     namespace, name = (text_in(found, 'metadata', of) for of in ('namespace', 'name'))
     return '%s %s%s' % (told(kind), told(namespace) + '/' if namespace else '', told(name)) if name else ''
 
@@ -131,14 +137,13 @@ def advise_on_universe(asking: Asking, files: list[str]) -> None:
 
 def wide_rules(path: str) -> Iterator[str]:
     """The rules of a file that name more resources than a universe may have targets."""
-    document = read_document(path)
-    for item in range(1, len(list_in(document, 'items')) + 1):
-        found, kind = item_of(document, item)
+    for found in objects_in(path):
+        kind = text_in(found, 'kind')
         for place, rule in enumerate(list_in(found, 'rules') if kind in ROLES else (), 1):
             groups, words = ({text for text in list_in(rule, name) if isinstance(text, str) and '*' not in text} for name in ('apiGroups', 'resources'))
             count = len(groups) * len({text for text in words if text and not text.startswith('/')})
             if count > MOST_TARGETS:
-                yield 'rule %d of %s: %s' % (place, find_culprit(path, item) or kind, format(count, ','))
+                yield 'rule %d of %s: %s' % (place, named(found, kind) or kind, format(count, ','))
 
 
 # ---- words that are refused

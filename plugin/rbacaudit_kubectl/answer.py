@@ -8,6 +8,7 @@ import re
 import select
 from collections.abc import Callable, Iterable, Iterator
 from dataclasses import dataclass, field
+from typing import Any, TypeVar
 
 from .escapes import bytes_of, text_of
 from .export import Export, look_at_about, open_export
@@ -20,6 +21,7 @@ TYPE_CHECKING = False
 if TYPE_CHECKING:
     from .manifests import Manifests
 
+T = TypeVar('T')
 FAULT = re.compile(r'^rbacaudit: file (\d+)(?: item (\d+))?(?:: (.*)| .*)$', re.M)
 MOST_COUNTED = 1000000
 REPEATED = re.compile(rb'^[^\t\n]*\t(?!-\t)[^\t\n]*\t.*\tClusterRoleBinding/[^\t\n]*$', re.M)
@@ -40,6 +42,16 @@ class Asking:
     def files(self, *parts: str) -> list[str]:
         """The files of the export for these parts; without any, for those that the question reads."""
         return self.export.files(*(parts or self.question.parts()[0])) if self.export else []
+
+    @property
+    def all_files(self) -> list[str]:
+        """The files that rbacaudit reads for the question: the FILEs, and then those of the export."""
+        return [*self.question.files, *self.files()]
+
+
+def open_asking(session: Session, options: Options, question: Question) -> Asking:
+    """A question with what it is asked of: an export or a cluster."""
+    return Asking(session, options, question, open_export(session, options, question, options.export))
 
 
 # ---- calls of rbacaudit
@@ -115,17 +127,21 @@ def wait_for(asking: Asking, child: Child, awaited: Callable[[], str]) -> None:
 
 def ask_as_it_comes(asking: Asking, line: list[str], files: list[str], take: Callable[[Child], int] | None) -> tuple[int, int]:
     """Asks, and lets a filter take what rbacaudit prints as it comes, or nobody; both statuses."""
-    session = asking.session
+    status, taken, said = run_beside(asking.session, line, take or (lambda _: 0), stdout=PIPE if take else None)
+    # (a filter that has ended takes no more lines)
+    if not taken or not said.startswith('rbacaudit: write failed'):
+        report_fault(asking, said, files)
+    return status, taken
+
+
+def run_beside(session: Session, line: list[str], use: Callable[[Child], T], **how: Any) -> tuple[int, T, str]:
+    """Runs rbacaudit beside what uses its standard files: its status, what that gives, and what it said."""
     with open(session.path('said'), 'w+b') as said:
-        child = session.start(['rbacaudit', *line], stdout=PIPE if take else None, stderr=said)
-        taken = take(child) if take else 0
+        child = session.start(['rbacaudit', *line], stderr=said, **how)
+        used = use(child)
         status = session.end(child)
         said.seek(0)
-        text = text_of(said.read())
-    # (a filter that has ended takes no more lines)
-    if not taken or not text.startswith('rbacaudit: write failed'):
-        report_fault(asking, text, files)
-    return status, taken
+        return status, used, text_of(said.read())
 
 
 def lines_of(child: Child, counts: Counts | None = None) -> Iterator[bytes]:
@@ -186,7 +202,7 @@ def open_question(session: Session, options: Options, question: Question) -> Ask
     if question.command == 'matrix' and question.files:
         from .remarks import look_for_universes
         look_for_universes(session, question.files, question.once)
-    asking = Asking(session, options, question, open_export(session, options, question, options.export))
+    asking = open_asking(session, options, question)
     if question.command in ('can-i', 'who-can', 'rules', 'paths'):
         from .remarks import remark_on_question
         remark_on_question(asking)
@@ -196,7 +212,7 @@ def open_question(session: Session, options: Options, question: Question) -> Ask
 def answer(asking: Asking) -> int:
     """Answers, and then says so if the cluster may answer differently."""
     question, form, stale = asking.question, asking.options.format, ''
-    files = [*question.files, *asking.files()]
+    files = asking.all_files
     line = [*question.line, *files]
     if question.command != 'lint':
         from .remarks import find_stale
@@ -211,7 +227,7 @@ def answer(asking: Asking) -> int:
         done = Done(status)
     if stale and status <= 1:
         from .remarks import remark_on_stale
-        remark_on_stale(asking, stale, line, files, done)
+        remark_on_stale(asking, stale, line, done)
     return status
 
 

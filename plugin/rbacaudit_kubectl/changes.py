@@ -4,15 +4,14 @@ from __future__ import annotations
 
 import json
 from collections import Counter
-from collections.abc import Iterator
 
 from .answer import Asking, ask, ask_shown, show_text
-from .documents import first_three, item_of, list_in, read_document, read_json, text_in
+from .documents import first_three, list_in, objects_in, read_json, text_in
 from .escapes import bytes_of
 from .export import open_export
 from .fields import STEP_NAMES, is_gathered, powers_of, rows_of
-from .manifests import (Item, Manifests, check_inputs, check_namespace, is_of_rbac, key_of, key_of_item, labels_of, list_text, name_path,
-                        need_held, role_of, take_manifests)
+from .manifests import (Item, Manifests, check_inputs, check_namespace, is_of_rbac, key_of_item, labels_of, list_text, name_path, need_held,
+                        role_of, take_manifests)
 from .options import Options, choose_format, read_options
 from .processes import Session
 from .question import Question, check_cluster
@@ -135,8 +134,8 @@ def keep_labels(asking: Asking, put: Manifests, files: list[str]) -> None:
     """Gives the cluster roles of a change the labels that kubectl apply leaves, by the files of an export."""
     roles = {key_of_item(item): at for at, item in enumerate(put.items) if is_of_rbac(item) and item['kind'] == 'ClusterRole'}
     kept = []
-    for exported, kind in items_of(files) if roles else ():
-        key = key_of(kind, '', text_in(exported, 'metadata', 'name'))
+    for exported in objects_in(*files) if roles else ():
+        key = key_of_item(exported)
         if key not in roles:
             continue
         role = put.items[roles[key]]
@@ -149,13 +148,6 @@ def keep_labels(asking: Asking, put: Manifests, files: list[str]) -> None:
     if kept:
         put.file = asking.session.write('manifests-with.json', list_text(put.texts))
         asking.session.report('kubectl apply leaves labels that only the cluster has: %s' % first_three(kept))
-
-
-def items_of(files: list[str]) -> Iterator[tuple[Item, str]]:
-    """The objects of an export, each with its kind."""
-    for document in map(read_document, files):
-        for number in range(len(list_in(document, 'items'))):
-            yield item_of(document, number + 1)
 
 
 # ---- the answer
@@ -184,12 +176,11 @@ def show_rows(asking: Asking, rows: list[list[str]], old: Manifests | None, new:
 def most_lines(files: list[str]) -> int:
     """How many lines of diff there can be: one for each permission that a binding of these files gives to one of its subjects."""
     sizes, bindings = Counter[str](), list[Item]()
-    for item, kind in items_of(files):
-        if kind.endswith('Binding'):
+    for item in objects_in(*files):
+        if text_in(item, 'kind').endswith('Binding'):
             bindings.append(item)
         else:
-            name = key_of(kind, text_in(item, 'metadata', 'namespace'), text_in(item, 'metadata', 'name'))
-            sizes[name] += sum(map(size_of, list_in(item, 'rules')))
+            sizes[key_of_item(item)] += sum(map(size_of, list_in(item, 'rules')))
     return sum(sizes[role_of(binding)] * len(list_in(binding, 'subjects')) for binding in bindings)
 
 

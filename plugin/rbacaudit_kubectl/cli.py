@@ -11,7 +11,7 @@ from __future__ import annotations
 from importlib import import_module
 
 from . import VERSION
-from .options import COMMANDS
+from .options import COMMANDS, end_with_help
 from .processes import Session, Signalled, hold_files
 from .terminal import Ended, Refused, print_text
 
@@ -31,9 +31,7 @@ def run_words(session: Session, words: list[str]) -> int:
         from .question import question_command
         return question_command(session, first, words[1:])
     if first in ('-h', '--help'):
-        from .help import help_of
-        print_text(help_of(''))
-        return 0
+        end_with_help('')
     if first in ('-V', '--version'):
         print_text('kubectl-rbacaudit %s\n' % VERSION)
         session.need_rbacaudit()

@@ -17,7 +17,8 @@ OF_FILES = ('--kubeconfig', '--diff', '--with', '--without', '--from', '--to', '
 
 def offers(command: str, before: list[str], typed: str) -> Iterator[str]:
     """What may stand after the words before, and what else."""
-    known, tokens = COMMANDS[command].options, [*tokens_of(command, before)]
+    known = COMMANDS[command].options
+    tokens = [*tokens_of(known, before)]
     literal = any(token.name == '--' for token in tokens)
     places = [token for token in tokens if not token.name]
     option = next((option for option in known if typed.partition('=')[0] in option.spellings), None)

@@ -4,7 +4,7 @@ from __future__ import annotations
 
 import json
 import os
-from collections.abc import Iterable, Sequence
+from collections.abc import Iterable, Iterator, Sequence
 from contextlib import suppress
 from typing import Any
 
@@ -61,6 +61,15 @@ def read_json(text: str) -> Any:
     with suppress(ValueError, RecursionError):
         return json.loads(text)
     return None
+
+
+def objects_in(*paths: str) -> Iterator[dict[str, Any]]:
+    """The objects in files: the items of lists, with the kind and the version that these imply, and documents alone."""
+    for document in map(read_document, paths):
+        implied = {'apiVersion': text_in(document, 'apiVersion'), 'kind': text_in(document, 'kind').removesuffix('List')}
+        # (a null counts as missing)
+        yield from ({**implied, **{name: value for name, value in item.items() if value is not None}}
+                    for item in list_in(document, 'items') or [document] if isinstance(item, dict))
 
 
 def item_of(document: Any, item: int) -> tuple[Any, str]:

@@ -10,7 +10,7 @@ from contextlib import suppress
 from dataclasses import dataclass, field
 
 from .escapes import bytes_of, printable
-from .kubectl import Read, Reader, is_cut, look_at_context, put
+from .kubectl import GROUPS, Read, Reader, is_cut, look_at_context, put
 from .options import Options, read_options, safe_path
 from .processes import Session, remove_folder
 from .question import Question
@@ -65,6 +65,11 @@ class Export:
             raise Refused("can't read %s" % self.path(name)) from fault
 
 
+def has_note(export: Export, name: str) -> bool:
+    """Whether an export says that it has read a file."""
+    return export.has('about.txt') and any(line.startswith(name + ': ') for line in export.notes('about.txt', 'file: '))
+
+
 # ---- an export that answers
 
 def look_at_about(folder: str) -> Export:
@@ -108,6 +113,8 @@ def gaps_of(session: Session, export: Export, question: Question, needed: list[s
 
     for part in needed:
         where = '%s in %s' % (part if part != 'api' else 'api-*.json', export.folder)
+        if part == GROUPS and not (export.has(GROUPS) or has_note(export, GROUPS) or export.notes('incomplete.txt', GROUPS + ': ')):
+            continue    # (most clusters have no groups)
         if not export.files(part):
             yield 'there is no %s%s' % (where, ''.join(': ' + line for line in export.notes('incomplete.txt', part + ': ')))
         elif part != 'api' and is_cut(export.path(part)):
@@ -165,7 +172,7 @@ def export_command(session: Session, words: list[str]) -> int:
     keep_others_out(session, folder, session.make_scratch(folder, OWN_FOLDER))
     stage = session.path('stage')
     os.mkdir(stage)
-    read = Reader(session, options, stage, options.namespace).read_parts([*FIXED, 'api'], ['version'])
+    read = Reader(session, options, stage, options.namespace).read_parts([*FIXED, GROUPS, 'api'], ['version'])
     write_about(session, options, stage, read, options.namespace)
     publish(session, stage, folder, read, options.force)
     if read.missing:
@@ -188,8 +195,8 @@ def make_room(session: Session, folder: str, force: bool) -> None:
 
 
 def old_files(folder: str, force: bool) -> list[str]:
-    """The files of an export that the folder has: they are refused without --force."""
-    names = [*FIXED, *lists_in(folder), 'about.txt', 'incomplete.txt']
+    """The files of an export that the folder has: they are refused without --force. Groups that no export has read are somebody's own."""
+    names = [*FIXED, *lists_in(folder), 'about.txt', 'incomplete.txt', *[GROUPS] * has_note(Export(folder), GROUPS)]
     found = [name for name in names if os.path.exists(os.path.join(folder, name))]
     if found and not force:
         raise Refused('%s already holds an export (%s); --force puts a new one in its place' % (folder, found[0]))
@@ -236,6 +243,13 @@ def write_about(session: Session, options: Options, folder: str, read: Read, onl
         out.write(bytes_of(printable(''.join(line.replace('\n', '\\n') + '\n' for line in lines))))
 
 
+def find_about(session: Session, options: Options, export: Export) -> str:
+    """The path of about.txt, which a fresh export gets now; or '' if there is none."""
+    if export.is_fresh:
+        write_about(session, options, export.folder, export.read)
+    return export.path('about.txt') if export.has('about.txt') else ''
+
+
 def publish(session: Session, stage: str, folder: str, read: Read, force: bool) -> None:
     """Puts the files of `stage` in the place of the old ones. From the first change to the last, incomplete.txt says that this goes on: so
     whatever interrupts it, no question takes the files for a whole export."""
@@ -244,7 +258,7 @@ def publish(session: Session, stage: str, folder: str, read: Read, force: bool) 
     put(session.write('marker', INTERRUPTED), marker)
     for name in old:
         remove(os.path.join(folder, name), marker)
-    for name in [*(name for name in FIXED if os.path.exists(os.path.join(stage, name))), *lists_in(stage), 'about.txt']:
+    for name in [*(name for name in [*FIXED, GROUPS] if os.path.exists(os.path.join(stage, name))), *lists_in(stage), 'about.txt']:
         put(os.path.join(stage, name), os.path.join(folder, name))
     if read.missing:
         put(session.write('missing', read.incomplete), marker)

@@ -39,6 +39,7 @@ Write everything that rbacaudit reads into the folder DIR, with your kubectl.
   cluster.json, namespaced.json   cluster roles and roles, and their bindings
   namespaces.json, accounts.json  namespaces, and service accounts of all namespaces
   api-*.json                      the API resource list of each API version
+  groups.json                     who is in which group, where the server has groups.user.openshift.io
   about.txt                       the context, its server, namespace and version, when and which files were read
   incomplete.txt                  what is missing, and the server's reason; a complete export has no such file
 
@@ -55,6 +56,9 @@ You need this ClusterRole, bound by a ClusterRoleBinding:
     verbs: [list]
   - apiGroups: [""]
     resources: [namespaces, serviceaccounts]
+    verbs: [list]
+  - apiGroups: [user.openshift.io]
+    resources: [groups]
     verbs: [list]
   - nonResourceURLs: [/api, /api/*, /apis, /apis/*, /version]
     verbs: [get]
@@ -197,7 +201,7 @@ Write one document about the export, for an auditor.
 {options}
 
 The document has what was read, who takes over the whole cluster and by which step, the powers of each user and group, the findings of lint by
-severity, stale aggregates, the groups whose members only a directory knows, and what the report misses; and with each the command that shows more.
+severity, stale aggregates, the groups whose members no Group document tells, and what the report misses; and with each the command that shows more.
 All of it is made of answers of rbacaudit. Findings about Kubernetes' own objects are left out, and counted. --export, --partial, --context,
 --kubeconfig and --request-timeout mean what kubectl rbacaudit --help says. Exit status: 0 the report is written; 2 an error.
 '''

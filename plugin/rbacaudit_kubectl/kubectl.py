@@ -9,6 +9,7 @@ import select
 from collections.abc import Iterable, Iterator
 from dataclasses import dataclass, field
 
+from .documents import list_in, read_document, text_in
 from .escapes import bytes_of, printable, text_of
 from .options import Options
 from .processes import NOTHING, PIPE, Child, Session
@@ -16,6 +17,8 @@ from .terminal import Refused
 
 SIDE_BY_SIDE = 8    # how many calls go on at once, which wait for most of their time
 RBAC = 'rbac.authorization.k8s.io'
+# Who is in which group, which OpenShift tells by this API version; and the list of its types, where no other list is read.
+GROUPS, OF_USERS, PROBE = 'groups.json', 'user.openshift.io/v1', 'users-api'
 LONGEST = 200       # bytes of an API version in a file's name, of which a folder takes 255
 # How lines of kubectl's own begin; any other is the rest of what somebody else said.
 KUBECTL_SAYS = re.compile(r"Warning: |[Ee]rror|Unable to |The |You |Please |no |couldn't |[EFIW]\d{4} ")
@@ -118,31 +121,44 @@ class Reader:
     def __init__(self, session: Session, options: Options, stage: str, namespace: str = '') -> None:
         self.session, self.options, self.stage, self.namespace = session, options, stage, namespace
         self.read = Read()
-        self._signed_in = False
+        self._signed_in, self._users = False, ''    # (the latter is the file for the list of OF_USERS, where the server has one)
         self._going: list[Call] = []
         self._settled = self._total = 0
 
     def read_parts(self, needed: list[str], wanted: list[str]) -> Read:
         """Reads the parts, of which `api` is all API resource lists, and `wanted` those that may be missing in silence."""
         versions = self._list_versions() if 'api' in needed + wanted else []
-        calls = [call for part in [*needed, *wanted] for call in self._calls_of(part, versions)]
-        self._total = len(calls)
+        self._read_calls([call for part in [*needed, *wanted] for call in self._calls_of(part, versions)], [*wanted, PROBE])
+        if GROUPS in needed and self._has_groups():
+            self._read_calls([Call(GROUPS, ['groups.' + OF_USERS.partition('/')[0], '-o', 'json'])], wanted)
+        self.session.progress.erase()
+        if not self.read.kept:
+            raise Refused('nothing could be read')
+        return self.read
+
+    def _read_calls(self, calls: list[Call], wanted: list[str]) -> None:
+        self._total += len(calls)
         for call in calls:
             self._begin(call)
             if len(self._going) >= SIDE_BY_SIDE or not self._signed_in:
                 self._settle(wanted)
         while self._going:
             self._settle(wanted)
-        self.session.progress.erase()
-        if not self.read.kept:
-            raise Refused('nothing could be read')
-        return self.read
+
+    def _has_groups(self) -> bool:
+        """Whether the server has groups with members, as OpenShift has: also where it has a list that can't be read, which may have them."""
+        path = os.path.join(self.stage, self._users)
+        types = list_in(read_document(path), 'resources') if os.path.isfile(path) else [{'name': 'groups'}]
+        return bool(self._users) and any(text_in(it, 'name') == 'groups' for it in types)
 
     def _calls_of(self, part: str, versions: list[str]) -> Iterator[Call]:
         one, rbac = ['-n', self.namespace] if self.namespace else ['--all-namespaces'], RBAC
         known = {'version': ['--raw', '/version'], 'cluster.json': ['clusterroles.%s,clusterrolebindings.%s' % (rbac, rbac)],
                  'namespaced.json': ['roles.%s,rolebindings.%s' % (rbac, rbac), *one], 'namespaces.json': ['namespaces', *one[1:]],
                  'accounts.json': ['serviceaccounts', *one]}
+        if part == GROUPS:
+            yield from [] if versions else [Call(PROBE, ['--raw', '/apis/' + OF_USERS])]
+            return
         if part != 'api':
             yield Call(part, known[part] + (['-o', 'json'] if part != 'version' else []))
             return
@@ -150,6 +166,7 @@ class Reader:
         used: list[str] = []
         for version in versions:
             used.append(version_name(version, used))
+            self._users = used[-1] if version == OF_USERS else self._users
             if '..' in used[-1]:
                 self.read.shortened.append('%s has the API version %s' % (used[-1], version))
             yield Call(used[-1], ['--raw', '/apis/' + version])
@@ -198,6 +215,8 @@ class Reader:
         self._end(call)
         self._settled += 1
         path = self._path(call)
+        if call.name == PROBE and not any('(NotFound)' in line for line in call.said):
+            self._users = PROBE
         why = 'ended with status %d' % call.status if call.status else 'printed nothing' if not os.path.getsize(path) else (
             "printed a part of its list, which isn't whole" if is_cut(path) else '')
         if not why or call.name not in wanted:

@@ -11,10 +11,7 @@ EMPTY = '"items": []\n}\n'
 
 def least_command(session: Session, words: list[str]) -> int:
     """The command least."""
-    opened = open_logs(session, 'least', words)
-    if not opened:
-        return 0
-    asking, logs = opened
+    asking, logs = open_logs(session, 'least', words)
     done, _ = ask_by_logs(asking, logs, 'these rules are for requests that are allowed by')
     if done.status:
         return done.status

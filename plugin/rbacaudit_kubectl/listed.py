@@ -5,8 +5,8 @@ from __future__ import annotations
 import json
 from dataclasses import dataclass
 
-from .answer import Asking, ask_well
-from .export import Export, open_export
+from .answer import Asking, ask_well, open_asking
+from .export import Export
 from .kubectl import RBAC
 from .options import Options, read_options
 from .processes import Session
@@ -62,7 +62,7 @@ def universe_command(session: Session, words: list[str]) -> int:
     options, question = read_options('universe', words), Question('universe')
     session.need_rbacaudit()
     check_cluster(session, options)
-    print_text(make_universe(Asking(session, options, question, open_export(session, options, question, options.export)))[0], as_json=True)
+    print_text(make_universe(open_asking(session, options, question))[0], as_json=True)
     return 0
 
 

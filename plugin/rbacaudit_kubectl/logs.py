@@ -14,19 +14,18 @@ from contextlib import ExitStack, suppress
 from dataclasses import dataclass, field
 from io import FileIO
 
-from .answer import Asking, open_question, report_fault
+from .answer import Asking, open_question, report_fault, run_beside
 from .escapes import text_of
 from .manifests import name_path
-from .options import COMMANDS, SHOWN, choose_format
+from .options import COMMANDS, SHOWN, choose_format, end_with_help
 from .processes import PIPE, Child, Done, Session
 from .question import accept_words, check_cluster, read_question
-from .terminal import Progress, Refused, print_text
+from .terminal import Progress, Refused
 
 PIECE = 1 << 20         # how many bytes are read at once
 EACH = 0.1              # seconds between two texts of a line of progress
 PACKED = b'\x1f\x8b'    # how a file of gzip begins
 FAULT = re.compile(r'^rbacaudit: log 1:? line (\d+)\b', re.M)
-STALE = 'stale aggregates (L6 of lint): %s; the cluster grants what is written in them, and %s what they gather'
 
 
 # ---- logs
@@ -111,9 +110,9 @@ class Logs:
         return 'line %d of %s' % (number, name_path(self.paths[at]))
 
 
-def feed(child: Child, logs: Logs) -> None:
-    """Writes logs to the standard input of a child, as far as it takes them: one that has ended takes no more."""
-    assert child.stdin is not None
+def feed(child: Child, logs: Logs) -> str:
+    """Writes logs to the standard input of a child, as far as it takes them: one that has ended takes no more. What the child then prints."""
+    assert child.stdin is not None and child.stdout is not None
     with suppress(BrokenPipeError):
         for piece in logs.pieces():
             rest = memoryview(piece)
@@ -121,6 +120,7 @@ def feed(child: Child, logs: Logs) -> None:
                 rest = rest[os.write(child.stdin.fileno(), rest):]
     child.stdin.close()
     logs.progress.erase()
+    return text_of(child.stdout.read())
 
 
 # ---- commands
@@ -128,14 +128,7 @@ def feed(child: Child, logs: Logs) -> None:
 def ask(asking: Asking, line: list[str], files: list[str], logs: Logs) -> Done:
     """Asks, and reports a fault: one of a log by its file and line. (whatever ends the run before all is read ends the child before it answers)"""
     session = asking.session
-    with open(session.path('said'), 'w+b') as said:
-        child = session.start(['rbacaudit', *line], stdin=PIPE, stdout=PIPE, stderr=said)
-        assert child.stdout is not None
-        feed(child, logs)
-        out = text_of(child.stdout.read())
-        status = session.end(child)
-        said.seek(0)
-        text = text_of(said.read())
+    status, out, text = run_beside(session, line, lambda child: feed(child, logs), stdin=PIPE, stdout=PIPE)
     report_fault(asking, text, files)
     found = FAULT.search(text)
     if found:
@@ -145,13 +138,11 @@ def ask(asking: Asking, line: list[str], files: list[str], logs: Logs) -> Done:
     return Done(status, out, text)
 
 
-def open_logs(session: Session, command: str, words: list[str]) -> tuple[Asking, Logs] | None:
-    """What the words of a command ask, and the logs that it is asked of; nothing if they ask for help, which is printed."""
+def open_logs(session: Session, command: str, words: list[str]) -> tuple[Asking, Logs]:
+    """What the words of a command ask, and the logs that it is asked of."""
     options, question = read_question(command, words)
     if options.help:
-        from .help import help_of
-        print_text(help_of(command))
-        return None
+        end_with_help(command)
     session.need_rbacaudit()
     if SHOWN[0] in COMMANDS[command].own:
         choose_format(options, command)
@@ -170,8 +161,8 @@ def open_logs(session: Session, command: str, words: list[str]) -> tuple[Asking,
 
 def ask_by_logs(asking: Asking, logs: Logs, having: str) -> tuple[Done, list[str]]:
     """Asks, and then names stale aggregates: `having` says whose words are what these gather. Also the files that were asked."""
-    from .remarks import find_stale
-    files, stale = [*asking.question.files, *asking.files()], ', '.join(find_stale(asking))
+    from .remarks import STALE, find_stale
+    files, stale = asking.all_files, ', '.join(find_stale(asking))
     done = ask(asking, [*asking.question.line, *files], files, logs)
     if done.status <= 1 and stale:
         asking.session.report(STALE % (stale, having))

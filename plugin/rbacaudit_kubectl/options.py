@@ -3,8 +3,9 @@
 from __future__ import annotations
 
 import os
-from collections.abc import Iterator
+from collections.abc import Iterable, Iterator, Sequence
 from dataclasses import dataclass
+from typing import NoReturn
 
 from .terminal import Ended, Refused, print_text
 
@@ -65,7 +66,7 @@ PASSED = {option.long: option for option in (
     Option('--as', 'USER', 'asker'), Option('--groups', 'A,B'), Option('--group', 'G', repeats=True), Option('-n,--namespace', 'NS', 'namespace'),
     Option('-A,--all-namespaces', '', 'everywhere'), Option('--in-namespace', '', 'in_namespace'), Option('--subresource', 'S', 'subresource'),
     Option('-q,--quiet', '', 'quiet'), Option('--why', '', 'why'), Option('--why-not', '', 'why_not'), Option('--anywhere', '', 'anywhere'),
-    Option('--any-name'), Option('--every'), Option('--indirect', '', 'indirect'), Option('--steps', 'STEPS'), Option('--to', 'TO'),
+    Option('--any-name'), Option('--every'), Option('--members', '', 'members'), Option('--indirect', '', 'indirect'), Option('--steps', 'STEPS'), Option('--to', 'TO'),
     Option('--once', '', 'once'), Option('--after', 'TOKEN'), Option('--limit', 'N'), Option('--only', 'CODES', 'codes'),
     Option('--skip-system', '', 'skips_system'), Option('--names'), Option('--name', 'NAME'))}
 SCOPE = '--namespace --all-namespaces --in-namespace --subresource '
@@ -89,7 +90,7 @@ COMMANDS: dict[str, Command] = {
     'can-i': Command('--as USER [-n NS] VERB TARGET', 'may USER do that: yes (exit status 0) or no (1)', 'VERB TARGET FILE',
                      SCOPE + '--as --groups --group --quiet --why --why-not'),
     'who-can': Command('[-n NS] VERB TARGET', 'who may do that; with --indirect, by taking over others too', 'VERB TARGET FILE',
-                       SCOPE + '--anywhere --any-name --every --why --indirect --steps'),
+                       SCOPE + '--anywhere --any-name --every --members --why --indirect --steps'),
     'rules': Command('[-n NS] WHO', 'which rules the user u:NAME or the group g:NAME has', 'WHO FILE', '--groups --group --namespace --all-namespaces'),
     'access': Command('[-n NS] WHO', 'what u:NAME or g:NAME may do: a table of types by verbs', 'WHO FILE',
                       '--groups --group --namespace --all-namespaces'),
@@ -170,9 +171,9 @@ class Token:
     value: str | None = None    # nothing if the line ends before it
 
 
-def tokens_of(command: str, words: list[str]) -> Iterator[Token]:
+def tokens_of(options: Iterable[Option], words: Sequence[str]) -> Iterator[Token]:
     """Takes a line apart, as rbacaudit does."""
-    known = {name: option for option in COMMANDS[command].options for name in option.spellings}
+    known = {name: option for option in options for name in option.spellings}
     left, literal = [*words], False
     while left:
         word = left.pop(0)
@@ -211,7 +212,7 @@ def manifest_path(path: str) -> str:
 def read_options(command: str, words: list[str]) -> Options:
     """Reads the words of a command whose options are all the plugin's own; help ends the run."""
     options = Options(command)
-    for token in tokens_of(command, words):
+    for token in tokens_of(COMMANDS[command].options, words):
         if token.option:
             options.take(token, token.option)
         elif not COMMANDS[command].places or (token.name and not (command == 'page' and token.name == '--')):
@@ -220,10 +221,15 @@ def read_options(command: str, words: list[str]) -> Options:
         elif not token.name:
             options.paths.append(manifest_path(token.words[0]) if command == 'read' else token.words[0])
     if options.help:
-        from .help import help_of
-        print_text(help_of(command))
-        raise Ended(0)
+        end_with_help(command)
     return options
+
+
+def end_with_help(command: str) -> NoReturn:
+    """Prints the help of a command, which ends the run."""
+    from .help import help_of
+    print_text(help_of(command))
+    raise Ended(0)
 
 
 def formats_of(command: str) -> tuple[str, ...]:

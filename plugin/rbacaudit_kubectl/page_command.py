@@ -8,16 +8,16 @@ import re
 from collections.abc import Iterator
 
 from . import page
-from .answer import Asking, ask_as_it_comes, ask_well, lines_of
+from .answer import Asking, ask_as_it_comes, ask_well, lines_of, open_asking
 from .escapes import printable
-from .export import open_export, write_about
+from .export import find_about
 from .fields import has_name, in_field, place_of
 from .listed import Type, list_types, make_universe
 from .options import read_options
 from .page_paths import Paths, words_for
 from .processes import Session
 from .question import Question, check_cluster
-from .remarks import look_for_universes, on_namespace, stale_in
+from .remarks import STALE, look_for_universes, on_namespace, stale_in
 from .terminal import Refused
 
 # A rule with resourceNames, perhaps with a letter of it as an escape.
@@ -35,7 +35,8 @@ def page_command(session: Session, words: list[str]) -> int:
         raise Refused("can't read %s" % options.diff)
     look_for_universes(session, options.paths, once=not options.namespace)
     question = Question('matrix', options.paths, options.namespace)
-    asking = Asking(session, options, question, open_export(session, options, question, options.export))
+    question.shows_paths = True
+    asking = open_asking(session, options, question)
     for text in on_namespace(asking):
         session.report(text)
     return write_page(asking)
@@ -44,19 +45,18 @@ def page_command(session: Session, words: list[str]) -> int:
 def write_page(asking: Asking) -> int:
     """Writes the page of the export that is open, and of the FILEs: each text goes to the page as a file."""
     session, options, export = asking.session, asking.options, asking.export
+    assert export is not None
     text, types = make_universe(asking)
     given = [session.write('universe.json', text), *asking.question.files]
     linted = [*given, *asking.files('cluster.json', 'namespaced.json')]
     texts = {'--lint': ask_well(asking, ['lint', '--', *linted], linted).out, '--named': ''.join(named_holders(asking, types))}
     stale = ', '.join(stale_in(texts['--lint']))
     if stale:
-        session.report('stale aggregates (L6 of lint): %s; the cluster grants what is written in them, and this page has what they gather' % stale)
+        session.report(STALE % (stale, 'this page has'))
     texts['--notices'] = printable(''.join(line + '\n' for line in notices(asking, stale)))
     texts['--namespaced'] = ''.join('%s\t%s\n' % (in_field(it.group), in_field(it.name)) for it in list_types(asking, [*given, *asking.files()])
                                     if it.is_namespaced)
-    if export and export.is_fresh:
-        write_about(session, options, export.folder, export.read)
-    about = export.path('about.txt') if export and export.has('about.txt') else ''
+    about = find_about(session, options, export)
     words = [word for name, value in texts.items() for word in (name, session.write('page' + name, value))]
     paths = Paths(asking)
     paths.ask()

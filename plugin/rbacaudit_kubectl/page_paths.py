@@ -12,6 +12,7 @@ from .answer import Asking, ask_well
 from .escapes import bytes_of, text_of
 from .fields import rows_of
 from .fields import text_of as text_of_field
+from .kubectl import GROUPS
 from .processes import Child
 from .terminal import Ended
 
@@ -58,7 +59,7 @@ class Paths:
 
     def __init__(self, asking: Asking, seconds: float = SECONDS) -> None:
         self.asking, self.seconds = asking, seconds
-        self.files = [*asking.question.files, *asking.files('cluster.json', 'namespaced.json', 'accounts.json')]
+        self.files = [*asking.question.files, *asking.files('cluster.json', 'namespaced.json', 'accounts.json', GROUPS)]
         self.answers, self.reach, self.unasked, self.lines = list[str](), list[str](), list[str](), 0
 
     def ask(self) -> None:

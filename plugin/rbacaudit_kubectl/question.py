@@ -4,13 +4,14 @@ from __future__ import annotations
 
 import os
 
+from .kubectl import GROUPS, look_at_context
 from .options import COMMANDS, PASSED, Option, Options, Token, choose_format, tokens_of
 from .processes import NOTHING, Session
 from .terminal import Ended, Refused, print_text
 
 ROLES = ['cluster.json', 'namespaced.json']
 PARTS = {'rules': ROLES, 'powers': ROLES, 'lint': ROLES, 'diff': ROLES, 'unused': ROLES, 'least': ROLES,
-         'paths': [*ROLES, 'accounts.json'], 'report': [*ROLES, 'accounts.json'],
+         'paths': [*ROLES, 'accounts.json'], 'report': [*ROLES, 'accounts.json', GROUPS],
          'matrix': [*ROLES, 'namespaces.json', 'accounts.json', 'api']}
 ACCOUNT = 'system:serviceaccount:'
 
@@ -22,7 +23,8 @@ class Question:
         self.command, self.files = command, files or []
         self.words, self.places, self.groups = list[str](), list[str](), list[str]()    # without files; VERB and TARGET, or WHO
         self.verb = self.type = self.object = self.subresource = self.codes = self.asker = self.namespace = ''
-        self.everywhere = self.anywhere = self.in_namespace = self.indirect = self.once = self.has_namespace = False
+        self.everywhere = self.anywhere = self.in_namespace = self.indirect = self.once = self.has_namespace = self.members = False
+        self.shows_paths = False    # (of a page)
         self.quiet = self.why = self.why_not = self.skips_system = False
         self.dashed = ''            # the last value that begins with a dash and its option, as they have to be written
         self.asked_in = asked_in    # the namespace that it is about, or nothing for the whole cluster:
@@ -31,10 +33,16 @@ class Question:
 
     def parts(self) -> tuple[list[str], list[str]]:
         """The parts of an export that it reads, and those that only remarks need."""
-        needed = PARTS.get(self.command, [*ROLES, 'api']) + ['accounts.json'] * self.indirect
+        needed = PARTS.get(self.command, [*ROLES, 'api']) + ['accounts.json'] * self.indirect + [GROUPS] * self.is_of_members
         is_account = self.asker.startswith(ACCOUNT) and self.command != 'least'
         wanted = ['namespaces.json'] * bool(self.asked_in) + ['accounts.json'] * is_account
         return needed, [part for part in wanted if part not in needed]
+
+    @property
+    def is_of_members(self) -> bool:
+        """Whether it matters who is in which group: to a user who has what these have, to paths, and where their members are asked for."""
+        leads_on = self.command == 'paths' or self.indirect or self.shows_paths
+        return leads_on or self.members or bool(self.asker) and self.command in ('can-i', 'rules')
 
     @property
     def names_namespace(self) -> bool:
@@ -80,7 +88,7 @@ def read_question(command: str, words: list[str]) -> tuple[Options, Question]:
     """The plugin's own options, and the question in the other words."""
     options, question = Options(command), Question(command)
     most = len(COMMANDS[command].places.split()) - 1
-    for token in tokens_of(command, words):
+    for token in tokens_of(COMMANDS[command].options, words):
         word = token.words[0]
         if token.option and token.option.long not in PASSED:
             options.take(token, token.option)
@@ -110,7 +118,6 @@ def choose_namespace(session: Session, options: Options, question: Question, nam
             question.own = question.asked_in = question.object
         elif not question.has_namespace:
             if not options.export:
-                from .kubectl import look_at_context
                 namespace = look_at_context(session, options)[2]
             question.implied = question.asked_in = namespace or 'default'
 

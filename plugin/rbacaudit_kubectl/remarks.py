@@ -10,9 +10,9 @@ from dataclasses import dataclass, field
 from typing import Any
 
 from .answer import Asking
-from .documents import first_of, list_in, read_document, read_text, text_in, told
+from .documents import first_of, list_in, objects_in, read_document, read_text, text_in, told
 from .fields import in_field, in_key, rows_of
-from .kubectl import RBAC
+from .kubectl import GROUPS, RBAC
 from .listed import V1, Lists, Type
 from .processes import Done, Session
 from .question import ACCOUNT
@@ -29,6 +29,7 @@ UNLISTED = {'impersonate': ('users', 'users.', 'groups', 'groups.', 'uids.authen
             'approve': SIGNERS, 'sign': SIGNERS, 'attest': SIGNERS}
 UNIVERSE_FIELDS = ('apiVersion', 'kind', 'metadata', 'principals', 'namespaces', 'verbs', 'names', 'resources', 'urls')
 ITEM_FIELDS = {'principals': ('user', 'groups', 'group'), 'resources': ('group', 'resource', 'namespaced')}
+STALE = 'stale aggregates (L6 of lint): %s; the cluster grants what is written in them, and %s what they gather'
 # What an answer of each command has, and the fields of a line that tell something, by their number: the others say where a rule is written.
 DIFFERS = {'who-can': 'holders', 'rules': 'rules', 'powers': 'powers', 'paths': 'paths'}
 TELLING = {8: (0, 1, 2), 10: (0, 5, 6, 7, 8, 9), 11: (0, 1, 2, 3, 4, 5)}
@@ -43,7 +44,7 @@ NAMED_ACCOUNT = re.compile(r'u:system:serviceaccount:([-a-z0-9.]+):([^:]+)')
 
 def remark_on_question(asking: Asking) -> None:
     """What is said before an answer: of the type, the namespace, and whoever asks."""
-    for remark in (on_type, on_url, on_own_object, on_place, on_implied, on_namespace, on_asker):
+    for remark in (on_type, on_url, on_own_object, on_place, on_implied, on_namespace, on_members, on_asker):
         for text in remark(asking):
             asking.session.report(text)
 
@@ -127,7 +128,7 @@ def on_verb(asking: Asking, meant: Type, files: list[str]) -> Iterator[str]:
 
 def verbs_in(files: list[str]) -> Iterator[tuple[str, str, str]]:
     """Group, name and verb of each entry of API resource lists."""
-    for one in (one for path in files for one in documents_in(read_document(path))):
+    for one in objects_in(*files):
         group, is_named, _ = text_in(one, 'groupVersion').partition('/')
         for entry in list_in(one, 'resources'):
             yield from ((group if is_named else '', text_in(entry, 'name'), verb) for verb in list_in(entry, 'verbs') if isinstance(verb, str))
@@ -188,6 +189,12 @@ def list_there(asking: Asking, name: str, field: str) -> list[Any] | None:
     files = asking.files(name)
     derived = asking.session.capture(['rbacaudit', 'universe', *files]) if files else None
     return None if derived is None or derived.status else list_in(json.loads(derived.out), field)
+
+
+def on_members(asking: Asking) -> Iterator[str]:
+    """Nothing says who is in which group."""
+    if asking.question.members and not asking.question.files and not asking.files(GROUPS):
+        yield 'the export has no %s, so --members lists nobody more: only Group documents tell who is in a group' % GROUPS
 
 
 # ---- Universe documents
@@ -257,17 +264,17 @@ def list_accounts(asking: Asking) -> list[str] | None:
 
 
 def named_keys(asking: Asking) -> set[str] | None:
-    """The key of each user and group that a binding names, as rbacaudit tells who may do what all bindings grant: nothing if a FILE can't be
-    read twice, or rbacaudit refuses one."""
+    """The key of each user and group that a binding names, and of each user whom documents list in such a group, as rbacaudit tells who may do
+    what all bindings grant: nothing if a FILE can't be read twice, or rbacaudit refuses one."""
     copies: list[str] = []
-    for path in [*asking.question.files, *asking.files('cluster.json', 'namespaced.json')]:
+    for path in [*asking.question.files, *asking.files('cluster.json', 'namespaced.json', GROUPS)]:
         if not os.path.isfile(path) or not os.access(path, os.R_OK):
             return None
         copies.append(asking.session.path('bound.%d' % len(copies)))
         with open(path, 'rb') as file, open(copies[-1], 'wb') as copy:
             copy.write(ROLE_REF.sub(REBOUND, file.read()))
     probe = asking.session.write('probe.json', PROBE)
-    found = asking.session.capture(['rbacaudit', 'who-can', '--anywhere', '--in-namespace', 'get', 'bindings', *copies, probe])
+    found = asking.session.capture(['rbacaudit', 'who-can', '--members', '--anywhere', '--in-namespace', 'get', 'bindings', *copies, probe])
     return None if found.status else {line.partition('\t')[0] for line in found.out.split('\n')}
 
 
@@ -358,11 +365,11 @@ def find_stale(asking: Asking, *more: str) -> list[str]:
     return stale_in(asking.session.capture(['rbacaudit', 'lint', '--only=L2,L6', *files]).out) if is_needed else []
 
 
-def remark_on_stale(asking: Asking, stale: str, line: list[str], files: list[str], answer: Done) -> None:
+def remark_on_stale(asking: Asking, stale: str, line: list[str], answer: Done) -> None:
     """Asks again as a cluster decides, by the rules that are written in aggregated roles, and says what it answers."""
     session, command = asking.session, asking.question.command
     if command == 'matrix':
-        session.report('stale aggregates (L6 of lint): %s; the cluster grants what is written in them, and this matrix has what they gather' % stale)
+        session.report(STALE % (stale, 'this matrix has'))
         return
     # (no other object has the field, and a text that looks like it has a backslash before its last quote; of documents that
     # have an object, the last counts)

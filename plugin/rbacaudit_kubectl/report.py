@@ -11,11 +11,12 @@ from dataclasses import dataclass
 from typing import Any
 
 from . import page
-from .answer import Asking, ask_well
-from .documents import item_of, list_in, read_document
+from .answer import Asking, ask_well, open_asking
+from .documents import objects_in, text_in
 from .escapes import bytes_of, on_one_line
-from .export import open_export, write_about
-from .fields import rows_of, text_of
+from .export import find_about
+from .fields import in_key, rows_of, text_of
+from .kubectl import GROUPS
 from .options import choose_format, read_options
 from .page_command import write_page
 from .processes import Session
@@ -28,13 +29,13 @@ from .terminal import Refused, print_text
 
 # The kinds of an export, with the file of each.
 KINDS = {'ClusterRole': 'cluster.json', 'ClusterRoleBinding': 'cluster.json', 'Role': 'namespaced.json', 'RoleBinding': 'namespaced.json',
-         'Namespace': 'namespaces.json', 'ServiceAccount': 'accounts.json'}
+         'Namespace': 'namespaces.json', 'ServiceAccount': 'accounts.json', 'Group': GROUPS}
 LEVELS = ('error', 'warning', 'note')
 # Whoever may do this has everything in the whole cluster.
 EVERYTHING = ['who-can', '--indirect', '-A', '--', '*', '*.*']
 # (a text, and what stands in it, or nothing)
 MISSES = [(text, '') for text in (
-    "Exports don't record who is in a group: each line about a group holds for every member.",
+    'Only Group documents tell who is in a group: each line about a group holds for every member.',
     'Only RBAC counts. Other authorizers of a server may allow more, and admission may refuse more.',
     "What admission decides isn't followed: a container that takes over its node, what a volume or the labels of a namespace give.",
     "Types that other controllers turn into pods don't count as a way to run pods.")]
@@ -68,14 +69,16 @@ def report_of(asking: Asking) -> Report:
         return ask_well(asking, [*words, *files], files).out
 
     assert asking.export is not None
-    about = page.about(asking.export.path('about.txt')) if asking.export.has('about.txt') else {}
+    path = find_about(asking.session, asking.options, asking.export)
+    about = page.about(path) if path else {}
     takeovers, powers = rows_of(lines(EVERYTHING, asking.files())), dict[tuple[str, str], list[str]]()
     for step, who, where, *_ in rows_of(lines(['powers', '--'])):
         powers.setdefault((who, where), []).append(step)
     linted, findings = lines(['lint', '--']), rows_of(lines(['lint', '--skip-system', '--']))
     findings.sort(key=lambda row: LEVELS.index(level_of(row)))
     stale, left_out = stale_in(linted), len(rows_of(linted)) - len(findings)
-    groups = sorted((key for key in named_keys(asking) or () if key.startswith('g:') and not key.startswith('g:system:')), key=bytes_of)
+    told = {in_key('g:' + text_in(it, 'metadata', 'name')) for it in objects_in(*asking.files(GROUPS))}
+    groups = sorted((key for key in named_keys(asking) or () if key.startswith('g:') and not key.startswith('g:system:') and key not in told), key=bytes_of)
     misses = [*((GAP, gap) for gap in asking.export.gaps), *[(ALONE, asking.export.only)] * bool(asking.export.only), *[(STALE, '')] * bool(stale),
               *[(OF_SYSTEM, str(left_out))] * bool(left_out), *MISSES]
     ordered = {key: powers[key] for key in sorted(powers, key=place_of_power)}
@@ -94,12 +97,8 @@ def level_of(finding: Sequence[str]) -> str:
 
 def counts_of(asking: Asking) -> dict[str, int | None]:
     """How many objects the export has of each kind, and how many API resource lists: nothing where none were read."""
-    kinds: Counter[str] = Counter()
-    for path in asking.files(*dict.fromkeys(KINDS.values())):
-        document = read_document(path)
-        # (the namespace of an export of one is no list)
-        kinds.update(item_of(document, place)[1] for place in range(1, len(list_in(document, 'items')) + 1) or [0])
-    counts = {kind: kinds[kind] if kinds[kind] or asking.files(name) else None for kind, name in KINDS.items()}
+    kinds = Counter(text_in(it, 'kind') for it in objects_in(*asking.files(*dict.fromkeys(KINDS.values()))))
+    counts = {kind: kinds[kind] if kinds[kind] or asking.files(name) else None for kind, name in KINDS.items() if name != GROUPS or asking.files(name)}
     return {**counts, 'APIResourceList': len(asking.files('api')) or None}
 
 
@@ -179,12 +178,10 @@ def report_command(session: Session, words: list[str]) -> int:
     session.need_rbacaudit()
     check_cluster(session, options)
     question = Question('matrix' if is_page else 'report')
-    export = open_export(session, options, question, options.export)
-    asking = Asking(session, options, question, export)
+    question.shows_paths = is_page
+    asking = open_asking(session, options, question)
     if is_page:
         return write_page(asking)
-    if export.is_fresh:
-        write_about(session, options, export.folder, export.read)
     report = report_of(asking)
     print_text(json_report(report) if options.format == 'json' else ''.join(line + '\n' for line in markdown(report, options.export)))
     return 0

@@ -11,7 +11,7 @@ from typing import Any, Dict
 
 from . import VERSION
 from .answer import Asking
-from .documents import first_of, read_document
+from .documents import first_of, objects_in
 from .escapes import escaped
 from .fields import is_gathered
 from .manifests import KUSTOMIZATIONS, NAMESPACED, Item, Manifests, is_held, key_of, key_of_item, role_of
@@ -168,7 +168,7 @@ def of_lint(asking: Asking, findings: list[list[str]]) -> str:
 def of_diff(asking: Asking, old: Manifests | None, new: Manifests | None, rows: list[list[str]], own: list[Item]) -> str:
     """The changes of diff as SARIF. `own` are objects beside manifests alone."""
     files = asking.files('cluster.json', 'namespaced.json') if old or new else []
-    exported = [*own, *(item for path in files for item in read_document(path)['items'])]
+    exported = [*own, *objects_in(*files)]
     sides = [Side(exported, *([manifests] if manifests else [])) for manifests in (old, new)]
     return log_of(asking, DIFF, changes_of(sides, rows))
 

@@ -8,18 +8,20 @@ import json
 import os
 import re
 import signal
-from collections.abc import Iterable, Iterator, Mapping, Sequence
+from collections.abc import Iterable, Iterator, Sequence
 from dataclasses import dataclass
 
 from . import VERSION
 from .escapes import bytes_of, escaped
 from .escapes import text_of as text_of_bytes
 from .fields import LACKS, NUMBER, REMARK, SHAPES, Row, Shape, text_of, words_of
+from .options import FORMATS, SHOWN, VALUES, Option, tokens_of
 from .table import Table
 from .terminal import Ended, Refused, has_colors, print_text, report
 
 PROGRAM = 'rbacaudit-show'
-CHOICES = {'-o': ('format', 'table', 'wide', 'json', 'name'), '--color': ('color', 'auto', 'always', 'never')}
+OPTIONS = (*SHOWN, Option('--rules', 'FILE'), Option('--indirect'), Option('-h,--help'), Option('-V,--version'))
+CHOICES = {'--output': ('-o', 'format', FORMATS[:4]), '--color': ('--color', 'color', VALUES['--color'])}
 
 # ---- reading
 
@@ -147,37 +149,31 @@ def objects_of(rows: Iterable[Row]) -> Iterator[str]:
 
 def read_options(words: Sequence[str]) -> dict[str, str]:
     """The words of the command line: the value of each option, by its name."""
-    found, left = {'-o': 'table', '--color': 'auto', '--rules': ''}, [*words]
-    while left:
-        word = left.pop(0)
-        name, has_value, value = word.partition('=')
-        if word.startswith('-o') and word != '-o':
-            name, has_value, value = '-o', '=', word[2:].removeprefix('=')
-        if word in ('-h', '--help', '-V', '--version'):
+    found = {'--output': 'table', '--color': 'auto', '--rules': ''}
+    for token in tokens_of(OPTIONS, words):
+        if not token.option and token.name:
+            raise Refused('there is no option %s; rbacaudit-show --help lists them' % token.name)
+        if not token.option:
+            raise Refused('there is no word %s in this command: rbacaudit-show reads from a pipe, or from a file as in rbacaudit-show < FILE' % token.words[0])
+        name = token.option.long
+        if name in ('--help', '--version'):
             from .help import help_of_show
-            print_text(help_of_show() if word in ('-h', '--help') else '%s %s\n' % (PROGRAM, VERSION))
+            print_text(help_of_show() if name == '--help' else '%s %s\n' % (PROGRAM, VERSION))
             raise Ended(0)
-        if word in ('--no-headers', '--indirect'):
-            found[word] = 'yes'
-        elif name in ('-o', '--output', '--color', '--rules'):
-            if not has_value and not left:
-                raise Refused(name + (' needs a value' if name in ('--color', '--rules') else ' needs a format: table, wide, json or name'))
-            found[name.replace('--output', '-o')] = value if has_value else left.pop(0)
-            check_values(found)
-        elif len(word) > 1 and word.startswith('-'):
-            raise Refused('there is no option %s; rbacaudit-show --help lists them' % word)
-        else:
-            raise Refused('there is no word %s in this command: rbacaudit-show reads from a pipe, or from a file as in rbacaudit-show < FILE' % word)
+        if token.value is None:
+            raise Refused(token.name + (' needs a format: table, wide, json or name' if name == '--output' else ' needs a value'))
+        found[name] = token.value if token.option.value else 'yes'
+        check_value(name, found[name])
     return found
 
 
-def check_values(found: Mapping[str, str]) -> None:
-    """Refuses values that mean nothing."""
-    for name, (what, *choices) in CHOICES.items():
-        if found[name] not in choices:
-            raise Refused('there is no %s %s: %s takes %s or %s' % (what, found[name], name, ', '.join(choices[:-1]), choices[-1]))
-    if found['--rules'] and (not os.path.isfile(found['--rules']) or not os.access(found['--rules'], os.R_OK)):
-        raise Refused("can't read " + found['--rules'])
+def check_value(name: str, value: str) -> None:
+    """Refuses a value that means nothing."""
+    told, what, choices = CHOICES.get(name, ('', '', (value,)))
+    if value not in choices:
+        raise Refused('there is no %s %s: %s takes %s or %s' % (what, value, told, ', '.join(choices[:-1]), choices[-1]))
+    if name == '--rules' and value and (not os.path.isfile(value) or not os.access(value, os.R_OK)):
+        raise Refused("can't read " + value)
 
 
 def table_of(form: str, headers: bool, color: str) -> Table:
@@ -229,7 +225,7 @@ def run(words: Sequence[str]) -> int:
     if options['--rules']:
         with open(options['--rules'], encoding='utf-8', errors='surrogateescape', newline='\n') as file:
             rules = file.read()
-    return show(lines_in(0), options['-o'], headers='--no-headers' not in options, color=options['--color'], rules=rules,
+    return show(lines_in(0), options['--output'], headers='--no-headers' not in options, color=options['--color'], rules=rules,
                 indirect='--indirect' in options)
 
 

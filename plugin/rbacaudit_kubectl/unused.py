@@ -6,28 +6,20 @@ import os
 from collections import Counter
 
 from .answer import show_text
-from .documents import item_of, list_in, read_document, text_in
+from .documents import objects_in, text_in
 from .fields import PARTS, rows_of
 from .logs import ask_by_logs, open_logs
-from .manifests import BINDINGS, RBAC
+from .manifests import BINDINGS, is_of_rbac, key_of_item
 from .processes import Session
 from .terminal import print_text
 
 
 def count_bindings(files: list[str], skips_system: bool) -> int | None:
     """How many bindings some files have, with those named system:.. or without; unless one is a pipe, which can't be read twice."""
-    found = set()
-    for path in files:
-        if not os.path.isfile(path):
-            return None
-        document = read_document(path)
-        items = [item_of(document, number) for number in range(1, len(list_in(document, 'items')) + 1)] or [item_of(document, 0)]
-        for item, kind in items:
-            name = text_in(item, 'metadata', 'name')
-            is_binding = kind in BINDINGS and (text_in(item, 'apiVersion') or text_in(document, 'apiVersion')).startswith(RBAC)
-            if is_binding and not (skips_system and name.startswith('system:')):
-                found.add((kind, text_in(item, 'metadata', 'namespace'), name))
-    return len(found)
+    if not all(map(os.path.isfile, files)):
+        return None
+    return len({key_of_item(item) for item in objects_in(*files) if is_of_rbac(item) and item['kind'] in BINDINGS
+                and not (skips_system and text_in(item, 'metadata', 'name').startswith('system:'))})
 
 
 def head_of(rows: list[list[str]], bindings: int | None, skips_system: bool) -> str:
@@ -42,10 +34,7 @@ def head_of(rows: list[list[str]], bindings: int | None, skips_system: bool) -> 
 
 def unused_command(session: Session, words: list[str]) -> int:
     """The command unused, with a head above a table: status 1 if something isn't used."""
-    opened = open_logs(session, 'unused', words)
-    if not opened:
-        return 0
-    asking, logs = opened
+    asking, logs = open_logs(session, 'unused', words)
     done, files = ask_by_logs(asking, logs, 'these lines have')
     if done.status > 1:
         return done.status
