@@ -15,6 +15,9 @@ KIND is one of
     bindings     N bindings of a user each
     chain        N cluster roles, each of which lets one bind the next; the first is bound in M namespaces, or in the cluster if M is 0
     aggregates   N aggregated cluster roles, each of which lets one bind each; the first is bound in M namespaces
+    binders      N users, each bound to a cluster role that lets one bind N others
+    imitators    N users, each bound to a cluster role that lets one impersonate all of them
+    clique       N users and N groups in one binding, who may impersonate anybody; one of them reads gold
     nested       a list of lists of N documents, each nested as deep as may be
     items        N items that are small objects
     members      an item of N small objects
@@ -122,6 +125,30 @@ def aggregates(n, m):
     return [role('p', rule, '"l":"1"'), *(role(name, selectors='{"matchLabels":{"l":"1"}}') for name in names), *in_homes]
 
 
+def naming(verb, group, resource, names):
+    return '{"verbs":["%s"],"apiGroups":["%s"],"resources":["%s"],"resourceNames":["%s"]}' % (verb, group, resource, '","'.join(names))
+
+
+def each_bound(n):
+    return (binding('b%d' % i, subject('User', 'u%d' % i)) for i in range(n))
+
+
+def binders(n, _):
+    rule = naming('bind', 'rbac.authorization.k8s.io', 'clusterroles', many(n, 'r%d'))
+    return [role('r', rule), *(role(name, PODS) for name in many(n, 'r%d')), *each_bound(n)]
+
+
+def imitators(n, _):
+    return [role('r', naming('impersonate', '', 'users', many(n, 'u%d'))), *each_bound(n)]
+
+
+def clique(n, _):
+    subjects = [subject(kind, name) for kind, names in (('User', many(n, 'u%d')), ('Group', many(n, 'g%d'))) for name in names]
+    rule = '{"verbs":["impersonate"],"apiGroups":[""],"resources":["users","groups"]}'
+    gold = binding('g', subject('User', 'u0')).replace('"name":"r"', '"name":"gold"')
+    return [role('r', rule), binding('b', ','.join(subjects)), role('gold', PODS.replace('pods', 'gold')), gold]
+
+
 def nested(n, _):
     return ['{"kind":"x","y":%s}' % ('[' * 120 + ']' * 120)] * n
 
@@ -139,8 +166,8 @@ def collide(_n, _m):
 
 
 KINDS = {'ring': ring, 'all': select_all, 'steps': steps, 'expressions': expressions, 'values': values, 'labels': labels, 'groups': groups,
-         'names': names, 'product': product, 'bindings': bindings, 'chain': chain, 'aggregates': aggregates, 'nested': nested, 'items': items,
-         'members': members, 'collide': collide}
+         'names': names, 'product': product, 'bindings': bindings, 'chain': chain, 'aggregates': aggregates, 'binders': binders,
+         'imitators': imitators, 'clique': clique, 'nested': nested, 'items': items, 'members': members, 'collide': collide}
 
 
 def main(kind, out, n='1000', m='1000'):

@@ -69,6 +69,16 @@ for count in 50 100 200; do
     hostile aggregates "$count" 50
     measure "$count aggregated roles that may bind one another, in 50 namespaces" paths u:u
 done
+for count in 1000 2000 4000; do
+    hostile binders "$count"
+    measure "$count users who may each bind as many roles by name" paths u:u0
+    hostile imitators "$count"
+    measure "$count users who may each impersonate all of them by name" paths u:u0
+done
+for count in 5000 10000 20000; do
+    hostile clique "$count"
+    measure "$count users and as many groups in one binding, who may impersonate anybody" who-can --indirect -A get gold
+done
 hostile nested 200000
 measure "values nested to the limit" can-i --as kim -A get pods
 hostile items 9000000
