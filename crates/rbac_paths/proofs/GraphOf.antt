@@ -3,14 +3,15 @@
 use Rattle.std.proofs.Common.{◌≡◌, ◌↔◌, ◌⊎◌, ◌∙◌, ◌<◌, ◌+◌, ◌++◌, ℕ, List, [], ◌∷◌, Some, IfOk, Result, Ok, Err, Contains, ap, arith, get_or, inl, inr, length, slice_get, subst, sym}
 use Rattle.std.proofs.lemmas.Bool.{cases_lt}
 use Rattle.std.proofs.lemmas.List.{get_or_append_left, get_or_at, length_push}
-use Rattle.std.proofs.lemmas.Option.{same_Some, slice_get_within}
+use Rattle.std.proofs.lemmas.Option.{get_or_from_slice_get, same_Some, slice_get-get_or, slice_get_within}
 use Rattle.rbac_terms.specs.Text.{Text}
 use Rattle.rbac_model.specs.Policies.{PolicyView}
-use Rattle.rbac_ways.specs.Joining.{IsListedAt, IsListedIn, SharesWord}
+use Rattle.rbac_ways.specs.Joining.{IsListedAt, IsListedIn, SharesWord, TakesListed}
 use Rattle.rbac_ways.specs.Ways.{GraphView, IsEdge}
-use Rattle.rbac_paths.specs.Joints.{AreHad, AreJoints, AreOthers, IsHadBy, IsNobody, TakesByWords}
+use Rattle.rbac_paths.specs.Joints.{AreHad, AreOthers, AreOwnWords, IsHadBy, IsNobody, TakesByWords}
 use Rattle.rbac_paths.specs.Nodes.{NodeView, Somebody, ClusterRoleIn, OwnRole, EverythingIn}
 use Rattle.rbac_paths.specs.Paths.{IsGraphOf}
+use Rattle.rbac_paths.specs.SharedLists.{AreShared}
 use Rattle.rbac_paths.specs.TakingOver.{TakesOver}
 use Rattle.rbac_steps.specs.declared.steps.Step.{Step}
 
@@ -46,27 +47,19 @@ had_more ys count had ws h words = record {
 
 module _ (p : PolicyView) (steps : List Step) (ys : List NodeView) where
   -- of no nodes
-  pub joints_none : (own : List (List Text)) (also : List (List ℕ)) → own ≡ [] → also ≡ [] → AreJoints p steps ys 0 own also
-  joints_none own also no_own no_also = record {
-    own_len = ap length no_own;
-    also_len = ap length no_also;
-    words = λ k y low at is. absurd (omega (arith, low));
-    others = λ k y low at. absurd (omega (arith, low));
+  pub own_none : (own : List (List Text)) → own ≡ [] → AreOwnWords p steps ys 0 own
+  own_none own none = record { len = ap length none; words = λ k y low at is. absurd (omega (arith, low)) }
+
+  pub own_more : (count : ℕ) (own : List (List Text)) (ws : List Text) → AreOwnWords p steps ys count own
+      → ((y : NodeView) → slice_get ys count ≡ Some y → IsNobody y → TakesByWords p steps y (λ w. Contains ws w)) → AreOwnWords p steps ys (count + 1) (own ++ ws ∷ [])
+  own_more count own ws are words = record {
+    len = length_push own ws ∙ ap (λ (n : ℕ). n + 1) are.len;
+    words = pushed (λ k y x. IsNobody y → TakesByWords p steps y (λ w. Contains x w)) ys [] own ws count are.len are.words words;
   }
 
-  pub joints_more : (count : ℕ) (own : List (List Text)) (also : List (List ℕ)) (ws : List Text) (js : List ℕ) → AreJoints p steps ys count own also
-      → ((y : NodeView) → slice_get ys count ≡ Some y → IsNobody y → TakesByWords p steps y (λ w. Contains ws w)) → ((y : NodeView) → slice_get ys count ≡ Some y → AreOthers p steps y ys js)
-      → AreJoints p steps ys (count + 1) (own ++ ws ∷ []) (also ++ js ∷ [])
-  joints_more count own also ws js j words others = record {
-    own_len = length_push own ws ∙ ap (λ (n : ℕ). n + 1) j.own_len;
-    also_len = length_push also js ∙ ap (λ (n : ℕ). n + 1) j.also_len;
-    words = pushed (λ k y x. IsNobody y → TakesByWords p steps y (λ w. Contains x w)) ys [] own ws count j.own_len j.words words;
-    others = pushed (λ k y x. AreOthers p steps y ys x) ys [] also js count j.also_len j.others others;
-  }
-
-  module _ (lists : List (List Text)) (takes : List (List ℕ)) (had : List (List Text)) (also : List (List ℕ)) (takes_len : length takes ≡ length ys)
+  module _ (lists : List (List Text)) (takes : List (List ℕ)) (had : List (List Text)) (also : List (List ℕ)) (own : List ℕ) (takes_len : length takes ≡ length ys)
       (words : (i : ℕ) (x : NodeView) → slice_get ys i ≡ Some x → TakesByWords p steps x (λ w. IsListedIn lists (get_or takes i []) w))
-      (others : (i : ℕ) (x : NodeView) → slice_get ys i ≡ Some x → AreOthers p steps x ys (get_or also i [])) (are : AreHad ys (length ys) had) where
+      (shared : AreShared ℕ (λ k js. (y : NodeView) → slice_get ys k ≡ Some y → AreOthers p steps y ys js) (length ys) also own) (are : AreHad ys (length ys) had) where
     -- roles and everything have no words
     nobody_had : (j : ℕ) (y : NodeView) (w : Text) → slice_get ys j ≡ Some y → IsNobody y → Contains (get_or had j []) w → ⊥
     nobody_had j (Somebody who) w at is c = elim is [ ]
@@ -75,18 +68,21 @@ module _ (p : PolicyView) (steps : List Step) (ys : List NodeView) where
     nobody_had j (EverythingIn scope) w at is c = let low = (subst (λ (ws : List Text). Contains ws w) (are.words j (EverythingIn scope) (slice_get_within ys j (EverythingIn scope) at) at) c).1 in omega (arith, low)
 
     abbrev Joined : ℕ → ℕ → Type 0
-    Joined i j = SharesWord lists takes had i j ⊎ IsListedAt also i j
+    Joined i j = SharesWord lists takes had i j ⊎ TakesListed also own i j
 
     module _ (i j : ℕ) (x : NodeView) (at : slice_get ys i ≡ Some x) where
-      listed : (y : NodeView) → slice_get ys j ≡ Some y → IsListedAt also i j → TakesOver p steps x y
+      low : i < length ys
+      low = slice_get_within ys i x at
+
+      listed : (y : NodeView) → slice_get ys j ≡ Some y → TakesListed also own i j → TakesOver p steps x y
       listed y there l =
-          let o = (others i x at j).0 l in
+          let o = (shared.each i low x at j).0 (subst (λ (k : ℕ). IsListedAt also k j) (sym (get_or_from_slice_get own i l.0 i l.1)) l.2) in
           subst (λ (z : NodeView). TakesOver p steps x z) (same_Some o.0 y (sym o.1 ∙ there)) o.3
 
       to_nobody : (y : NodeView) → slice_get ys j ≡ Some y → IsNobody y → Joined i j ↔ TakesOver p steps x y
       to_nobody y there is = (
         λ e. elim e [ inl s ↦ absurd (nobody_had j y s.0 there is s.2) | inr l ↦ listed y there l ],
-        λ t. inr ((others i x at j).1 (y, there, is, t)),
+        λ t. inr (get_or own i i, slice_get-get_or own i i (let len = shared.places_len in let within = low in omega (arith, within, len)), (shared.each i low x at j).1 (y, there, is, t)),
       )
 
       pub joined : (y : NodeView) → slice_get ys j ≡ Some y → Joined i j ↔ TakesOver p steps x y

@@ -19,10 +19,10 @@ pub mod GatheredRoles
 pub mod Gathering
 pub mod GivenGrants
 pub mod Giving
-pub mod GraphOf
-pub mod GraphWays
 pub mod GrantWords
 pub mod Grants
+pub mod GraphOf
+pub mod GraphWays
 pub mod InScopes
 pub mod Kept
 pub mod KeysApart
@@ -48,7 +48,9 @@ pub mod RowsOfStep
 pub mod RuleTakeovers
 pub mod RuleWords
 pub mod SameOthers
+pub mod SameWords
 pub mod Scopes
+pub mod SharedLists
 pub mod SharedWords
 pub mod Taken
 pub mod Takeovers

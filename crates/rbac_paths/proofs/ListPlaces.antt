@@ -1,9 +1,9 @@
 -- The places of the lists of words that nodes take, the grants there, and the words.
-use Rattle.std.proofs.Common.{◌≡◌, ◌∙◌, ◌↔◌, ◌<◌, ◌≤◌, ◌+◌, ◌++◌, ◌∷◌, [], ℕ, All, List, Some, Any, Contains, ap, arith, get_or, inl, inr, length, refl, slice_get, subst, suc, sym, zero}
-use Rattle.std.proofs.Math.ListN.{get_or-eq_default}
+use Rattle.std.proofs.Common.{◌≡◌, ◌∙◌, ◌↔◌, ◌<◌, ◌≤◌, ◌+◌, ◌++◌, ◌∷◌, [], ℕ, All, List, Some, Any, Contains, ap, arith, get_or, inl, inr, length, map, refl, slice_get, subst, suc, sym, zero}
+use Rattle.std.proofs.Math.ListN.{get_or-eq_default, get_or-map}
 use Rattle.std.proofs.lemmas.Bool.{cases_lt}
 use Rattle.std.proofs.lemmas.List.{get_or-append-add, get_or_append_left, length_push}
-use Rattle.std.proofs.lemmas.List.Elements.{Contains-append_cases, Contains-append_left, Contains-append_right, Contains-get_or, Contains-push, Contains-push_cases}
+use Rattle.std.proofs.lemmas.List.Elements.{Contains-append_cases, Contains-append_left, Contains-append_right, Contains-get_or}
 use Rattle.std.proofs.lemmas.Option.{same_Some, slice_get_within}
 use Rattle.rbac_terms.specs.Principals.{Who}
 use Rattle.rbac_terms.specs.Text.{Text}
@@ -15,15 +15,16 @@ use Rattle.rbac_subjects.specs.Bound.{AreNamedPlaces, IsNamedBy}
 use Rattle.rbac_ways.specs.Joining.{IsListedIn}
 use Rattle.rbac_paths.specs.Deciding.{AreGrantingPlaces, AreGrantsByBinding, AreNumbersOf, ArePlaces, ArePlacesOf, AreTakingGrants, GiveHoldings, IsTakingAt}
 use Rattle.rbac_paths.specs.Having.{HoldingView}
-use Rattle.rbac_paths.specs.Joints.{AreFewGrants, AreJoints, DecideOn, IsNobody, SomeMayTake, TakesByWords}
+use Rattle.rbac_paths.specs.Joints.{AreFewGrants, AreOwnWords, DecideOn, IsNobody, SomeMayTake, TakesByWords}
 use Rattle.rbac_paths.specs.Nodes.{NodeView, Somebody, ClusterRoleIn, OwnRole, EverythingIn}
+use Rattle.rbac_paths.specs.SharedLists.{list_of}
 use Rattle.rbac_paths.specs.SharedWords.{AreGrantWords, GrantTakesWord}
 use Rattle.rbac_paths.specs.Told.{grant_holding}
 use Rattle.rbac_steps.specs.declared.steps.Step.{Step}
 use Rattle.rbac_paths.proofs.GrantWords.{give, given, takes_by_grants}
 use Rattle.rbac_paths.proofs.GraphOf.{pushed}
 use Rattle.rbac_paths.proofs.Kept.{AreKept}
-use Rattle.rbac_paths.proofs.Mapped.{is_element, one_element}
+use Rattle.rbac_paths.proofs.Mapped.{contains_map, is_element, map_contains, one_element}
 use Rattle.rbac_paths.proofs.Others.{few_decide}
 use Rattle.rbac_paths.proofs.WhatDecides.{given_decide}
 use Rattle.rbac_paths.proofs.WordsTaken.{takes_same}
@@ -139,43 +140,54 @@ module _ (p : PolicyView) (ok : IsPolicy p) (steps : List Step) (grants : List (
 
   -- ---- the words that nodes take
 
-  module _ (bound own : List (List Text)) (are : AreGrantWords p steps grants bound) where
-    in_bound : (at n : ℕ) → Contains (get_or grants at []) n → get_or (bound ++ own) at [] ≡ get_or bound at []
-    in_bound at n has = get_or_append_left bound own [] at (let low = place_within grants at n has in let len = are.len in omega (arith, low, len))
+  module _ (bound own : List (List Text)) (shared : List ℕ) (are : AreGrantWords p steps grants bound shared) where
+    in_bound : (at : ℕ) → at < length grants → get_or (bound ++ own) (list_of shared at) [] ≡ get_or bound (list_of shared at) []
+    in_bound at low = get_or_append_left bound own [] (list_of shared at) (let list = are.within at low in let len = are.lists_len in omega (arith, list, len))
 
-    granted_words : (who : Who) (places : List ℕ) → AreGrantingPlaces p grants who places → (w : Text) → IsListedIn (bound ++ own) places w ↔ Any (GrantTakesWord p steps w) (listed grants places)
+    granted_words : (who : Who) (places : List ℕ) → AreGrantingPlaces p grants who places → (w : Text) → IsListedIn (bound ++ own) (map (list_of shared) places) w ↔ Any (GrantTakesWord p steps w) (listed grants places)
     granted_words who places granting w = (
       λ l.
-          (let by = (granting l.0).0 l.1 in
-          let a = (are.each l.0 w).0 (subst (λ (ws : List Text). Contains ws w) (in_bound l.0 by.0 by.1) l.2) in
-          any_from (GrantTakesWord p steps w) (listed grants places) a.1 ((listed_are grants places a.1).1 (l.0, l.1, (a.0, a.2, a.3))) a.4),
+          (let at = contains_map (list_of shared) places l.0 l.1 in
+          let by = (granting at.0).0 at.1 in
+          let low = place_within grants at.0 by.0 by.1 in
+          let has = subst (λ (ws : List Text). Contains ws w) (in_bound at.0 low) (subst (λ (list : ℕ). Contains (get_or (bound ++ own) list []) w) (sym at.2) l.2) in
+          let a = (are.each at.0 low w).0 has in
+          any_from (GrantTakesWord p steps w) (listed grants places) a.1 ((listed_are grants places a.1).1 (at.0, at.1, (a.0, a.2, a.3))) a.4),
       λ a.
           (let l = (listed_are grants places a.1).0 (a.0, a.2, a.3) in
-          (l.0, l.1, subst (λ (ws : List Text). Contains ws w) (sym (in_bound l.0 a.1 l.2)) ((are.each l.0 w).1 (any_from (GrantTakesWord p steps w) (get_or grants l.0 []) a.1 l.2 a.4)))),
+          let low = place_within grants l.0 a.1 l.2 in
+          (list_of shared l.0, map_contains (list_of shared) places l.0 l.1, subst (λ (ws : List Text). Contains ws w) (sym (in_bound l.0 low)) ((are.each l.0 low w).1 (any_from (GrantTakesWord p steps w) (get_or grants l.0 []) a.1 l.2 a.4)))),
     )
 
     -- the one list of a role, or of everything
-    own_words : (k : ℕ) (places : List ℕ) → places ≡ (length grants + k) ∷ [] → (w : Text) → IsListedIn (bound ++ own) places w ↔ Contains (get_or own k []) w
+    own_words : (k : ℕ) (places : List ℕ) → places ≡ (length grants + k) ∷ [] → (w : Text) → IsListedIn (bound ++ own) (map (list_of shared) places) w ↔ Contains (get_or own k []) w
     own_words k places is w =
-        let here : get_or (bound ++ own) (length grants + k) [] ≡ get_or own k [] = ap (λ (n : ℕ). get_or (bound ++ own) (n + k) []) (sym are.len) ∙ get_or-append-add bound own k [] in (
+        let at = length grants + k in
+        let list : list_of shared at ≡ at = get_or-eq_default shared at (let len = are.places_len in omega (arith, len)) in
+        let alone : map (list_of shared) places ≡ at ∷ [] = ap (map (list_of shared)) is ∙ ap (λ (n : ℕ). n ∷ []) list in
+        let here : get_or (bound ++ own) at [] ≡ get_or own k [] = ap (λ (n : ℕ). get_or (bound ++ own) (n + k) []) (sym are.lists_len) ∙ get_or-append-add bound own k [] in (
           λ l.
-              (let same = one_element (length grants + k) l.0 (subst (λ (ps : List ℕ). Contains ps l.0) is l.1) in
-              subst (λ (ws : List Text). Contains ws w) here (subst (λ (at : ℕ). Contains (get_or (bound ++ own) at []) w) (sym same) l.2)),
-          λ c. (length grants + k, subst (λ (ps : List ℕ). Contains ps (length grants + k)) (sym is) (is_element (length grants + k) (length grants + k) refl), subst (λ (ws : List Text). Contains ws w) (sym here) c),
+              (let same = one_element at l.0 (subst (λ (ps : List ℕ). Contains ps l.0) alone l.1) in
+              subst (λ (ws : List Text). Contains ws w) here (subst (λ (n : ℕ). Contains (get_or (bound ++ own) n []) w) (sym same) l.2)),
+          λ c. (at, subst (λ (ps : List ℕ). Contains ps at) (sym alone) (is_element at at refl), subst (λ (ws : List Text). Contains ws w) (sym here) c),
         )
 
     module _ (k : ℕ) (places : List ℕ) where
-      takes_at : (y : NodeView) → ArePlacesOf p grants (length grants + k) y places → (IsNobody y → TakesByWords p steps y (λ w. Contains (get_or own k []) w)) → TakesByWords p steps y (λ w. IsListedIn (bound ++ own) places w)
-      takes_at (Somebody who) at takes = takes_by_grants p ok steps who (listed grants places) (numbers_of (length grants + k) (Somebody who) places (listed grants places) (omega arith) at (listed_are grants places)) (λ w. IsListedIn (bound ++ own) places w) (granted_words who places at)
-      takes_at (ClusterRoleIn role scope) at takes = takes_same p (ClusterRoleIn role scope) steps (λ w. Contains (get_or own k []) w) (λ w. IsListedIn (bound ++ own) places w) (own_words k places at) (takes tt)
-      takes_at (OwnRole role) at takes = takes_same p (OwnRole role) steps (λ w. Contains (get_or own k []) w) (λ w. IsListedIn (bound ++ own) places w) (own_words k places at) (takes tt)
-      takes_at (EverythingIn scope) at takes = takes_same p (EverythingIn scope) steps (λ w. Contains (get_or own k []) w) (λ w. IsListedIn (bound ++ own) places w) (own_words k places at) (takes tt)
+      abbrev Takes : Text → Type 0
+      Takes w = IsListedIn (bound ++ own) (map (list_of shared) places) w
 
-    pub each_takes : (ys : List NodeView) (places also : List (List ℕ)) → ArePlaces p grants ys (length ys) places → AreJoints p steps ys (length ys) own also
-        → (i : ℕ) (x : NodeView) → slice_get ys i ≡ Some x → TakesByWords p steps x (λ w. IsListedIn (bound ++ own) (get_or places i []) w)
-    each_takes ys places also at joints i x there =
+      takes_at : (y : NodeView) → ArePlacesOf p grants (length grants + k) y places → (IsNobody y → TakesByWords p steps y (λ w. Contains (get_or own k []) w)) → TakesByWords p steps y Takes
+      takes_at (Somebody who) at takes = takes_by_grants p ok steps who (listed grants places) (numbers_of (length grants + k) (Somebody who) places (listed grants places) (omega arith) at (listed_are grants places)) Takes (granted_words who places at)
+      takes_at (ClusterRoleIn role scope) at takes = takes_same p (ClusterRoleIn role scope) steps (λ w. Contains (get_or own k []) w) Takes (own_words k places at) (takes tt)
+      takes_at (OwnRole role) at takes = takes_same p (OwnRole role) steps (λ w. Contains (get_or own k []) w) Takes (own_words k places at) (takes tt)
+      takes_at (EverythingIn scope) at takes = takes_same p (EverythingIn scope) steps (λ w. Contains (get_or own k []) w) Takes (own_words k places at) (takes tt)
+
+    pub each_takes : (ys : List NodeView) (places takes : List (List ℕ)) → ArePlaces p grants ys (length ys) places → takes ≡ map (map (list_of shared)) places → AreOwnWords p steps ys (length ys) own
+        → (i : ℕ) (x : NodeView) → slice_get ys i ≡ Some x → TakesByWords p steps x (λ w. IsListedIn (bound ++ own) (get_or takes i []) w)
+    each_takes ys places takes at are_lists words i x there =
         let low = slice_get_within ys i x there in
-        takes_at i (get_or places i []) x (at.each i x low there) (joints.words i x low there)
+        let here : get_or takes i [] ≡ map (list_of shared) (get_or places i []) = ap (λ (ls : List (List ℕ)). get_or ls i []) are_lists ∙ get_or-map (map (list_of shared)) places i [] in
+        subst (λ (ps : List ℕ). TakesByWords p steps x (λ w. IsListedIn (bound ++ own) ps w)) (sym here) (takes_at i (get_or places i []) x (at.each i x low there) (words.words i x low there))
 
   -- ---- the few grants over roles and everything
 

@@ -1,15 +1,20 @@
 -- Nodes that take over the same other nodes, because the same holdings decide it.
-use Rattle.std.proofs.Common.{◌≡◌, ◌∙◌, ℕ, List, Contains, ap}
+use Rattle.std.proofs.Common.{◌≡◌, ◌∙◌, ◌+◌, ◌<◌, ◌++◌, ◌∷◌, [], ℕ, List, Some, Contains, ap, get_or, slice_get, subst, sym}
+use Rattle.std.proofs.lemmas.List.{length_push}
+use Rattle.std.proofs.lemmas.Option.{same_Some}
 use Rattle.rbac_terms.specs.Text.{Text}
 use Rattle.rbac_terms.specs.declared.matching.Rule.{Rule}
 use Rattle.rbac_model.specs.Policies.{PolicyView}
 use Rattle.rbac_paths.specs.Having.{HoldingView}
-use Rattle.rbac_paths.specs.Joints.{AreOthers, DecideOn, IsNobody}
+use Rattle.rbac_paths.specs.Joints.{AreOthers, AreTaken, DecideOn, IsNobody, OthersTakenView}
 use Rattle.rbac_paths.specs.Nodes.{NodeView, EverythingIn}
+use Rattle.rbac_paths.specs.SharedLists.{AreShared}
 use Rattle.rbac_paths.specs.Taking.{CanTakeOver}
 use Rattle.rbac_paths.specs.TakingOver.{BindsNode, HasAll, MayGoOn, TakesOver}
 use Rattle.rbac_steps.specs.declared.steps.Step.{Step}
 use Rattle.rbac_steps.specs.declared.steps.Step.TheVariants.{Bind}
+use Rattle.rbac_paths.proofs.GraphOf.{pushed}
+use Rattle.rbac_paths.proofs.SharedLists.{shared_new, shared_old}
 use Rattle.rbac_paths.proofs.Untold.{untold_too}
 
 -- rules of the same five lists are the same
@@ -45,3 +50,28 @@ module _ (p : PolicyView) (steps : List Step) (few : List HoldingView) where
     λ c. (let o = (of j).0 c in (o.0, o.1, o.2, takes_too x z decide too o.0 (goes o.0) o.2 o.3)),
     λ o. (of j).1 (o.0, o.1, o.2, takes_too z x too decide o.0 (on o.0) o.2 o.3),
   )
+
+-- ---- one node more
+
+module _ (p : PolicyView) (steps : List Step) (ys : List NodeView) (count : ℕ) (o : OthersTakenView) (taken : AreTaken p steps ys count o) (z : NodeView) (here : slice_get ys count ≡ Some z)
+    (few : List HoldingView) (decide : DecideOn p steps z few IsNobody) where
+  abbrev Has : ℕ → List ℕ → Type 0
+  Has k js = (y : NodeView) → slice_get ys k ≡ Some y → AreOthers p steps y ys js
+
+  has : (js : List ℕ) → AreOthers p steps z ys js → Has count js
+  has js are y there = subst (λ (x : NodeView). AreOthers p steps x ys js) (same_Some z y (sym here ∙ there)) are
+
+  with_lists : (lists : List (List ℕ)) (places : List ℕ) → AreShared ℕ Has (count + 1) lists places → AreTaken p steps ys (count + 1) (record { overs = o.overs ++ few ∷ []; lists = lists; places = places })
+  with_lists lists places shared = record {
+    len = length_push o.overs few ∙ ap (λ (n : ℕ). n + 1) taken.len;
+    decide = pushed (λ k y hs. DecideOn p steps y hs IsNobody) ys [] o.overs few count taken.len taken.decide (λ y there. subst (λ (x : NodeView). DecideOn p steps x few IsNobody) (same_Some z y (sym here ∙ there)) decide);
+    others = shared;
+  }
+
+  -- with a list of its own
+  pub taken_new : (js : List ℕ) → AreOthers p steps z ys js → AreTaken p steps ys (count + 1) (record { overs = o.overs ++ few ∷ []; lists = o.lists ++ js ∷ []; places = o.places ++ count ∷ [] })
+  taken_new js are = with_lists (o.lists ++ js ∷ []) (o.places ++ count ∷ []) (shared_new ℕ Has count o.lists o.places taken.others js (has js are))
+
+  -- with the list of a node before
+  pub taken_old : (list : ℕ) (js : List ℕ) → list < count → AreOthers p steps z ys (get_or o.lists list []) → AreTaken p steps ys (count + 1) (record { overs = o.overs ++ few ∷ []; lists = o.lists ++ js ∷ []; places = o.places ++ list ∷ [] })
+  taken_old list js low are = with_lists (o.lists ++ js ∷ []) (o.places ++ list ∷ []) (shared_old ℕ Has count o.lists o.places taken.others list js low (has (get_or o.lists list []) are))

@@ -13,6 +13,7 @@ use Rattle.rbac_paths.specs.Deciding.{AreNumbersOf, IsAnyNode}
 use Rattle.rbac_paths.specs.Having.{HoldingView}
 use Rattle.rbac_paths.specs.Nodes.{NodeView, Somebody, ClusterRoleIn, OwnRole, EverythingIn}
 use Rattle.rbac_paths.specs.Rows.{MatchesRow}
+use Rattle.rbac_paths.specs.SharedLists.{AreShared}
 use Rattle.rbac_paths.specs.SharedWords.{AreHadBy}
 use Rattle.rbac_paths.specs.Steps.{StepRowView, table}
 use Rattle.rbac_paths.specs.Taking.{CanTakeOver, scope_namespace}
@@ -209,13 +210,23 @@ abbrev pub DecideOn : PolicyView → List Step → NodeView → List HoldingView
 DecideOn p steps x hs IsAbout = (step : Step) (y : NodeView) → Contains steps step → IsAbout y
     → HoldingsTake step hs y ↔ CanTakeOver p x step y
 
--- of the first nodes is known which holdings decide what other nodes each takes over, and the places
--- of those
-abbrev pub AreKnown : PolicyView → List Step → List NodeView → List (List HoldingView) → List (List ℕ)
-    → Type 0
-AreKnown p steps ys overs also = (k : ℕ) (y : NodeView) → k < length overs → slice_get ys k ≡ Some y
-    → DecideOn p steps y (slice_index_or overs k []) IsNobody
-    × AreOthers p steps y ys (slice_index_or also k [])
+-- which other nodes the first nodes of a list take over: holdings that decide it, for each node;
+-- lists of their places, and for each node the place of its list
+pub record OthersTakenView : Type 0 where
+  pub overs : List (List HoldingView)
+  pub lists : List (List ℕ)
+  pub places : List ℕ
+
+-- of each of the first `count` nodes: the holdings decide which other nodes it takes over, and its
+-- list has exactly the places of these
+pub record AreTaken (p : PolicyView) (steps : List Step) (ys : List NodeView) (count : ℕ)
+    (o : OthersTakenView) : Type 0 where
+  pub len : length o.overs ≡ count
+  pub decide : (k : ℕ) (y : NodeView) → k < count → slice_get ys k ≡ Some y
+      → DecideOn p steps y (slice_index_or o.overs k []) IsNobody
+  pub others : AreShared ℕ
+      (λ k js. (y : NodeView) → slice_get ys k ≡ Some y → AreOthers p steps y ys js)
+      count o.lists o.places
 
 -- the numbers of the taking grants and the rules of the node at a place
 pub record DecidingView : Type 0 where
@@ -242,16 +253,12 @@ IsHadBy (ClusterRoleIn role scope) ws = ws ≡ []
 IsHadBy (OwnRole role) ws = ws ≡ []
 IsHadBy (EverythingIn scope) ws = ws ≡ []
 
--- for each of the first `count` nodes: the words that it takes, if it is one of the other nodes,
--- and the other nodes that it takes over
-pub record AreJoints (p : PolicyView) (steps : List Step) (ys : List NodeView) (count : ℕ)
-    (own : List (List Text)) (also : List (List ℕ)) : Type 0 where
-  pub own_len : length own ≡ count
-  pub also_len : length also ≡ count
+-- for each of the first `count` nodes, the words that it takes, if it is one of the other nodes
+pub record AreOwnWords (p : PolicyView) (steps : List Step) (ys : List NodeView) (count : ℕ)
+    (own : List (List Text)) : Type 0 where
+  pub len : length own ≡ count
   pub words : (k : ℕ) (y : NodeView) → k < count → slice_get ys k ≡ Some y → IsNobody y
       → TakesByWords p steps y (λ w. Contains (slice_index_or own k []) w)
-  pub others : (k : ℕ) (y : NodeView) → k < count → slice_get ys k ≡ Some y
-      → AreOthers p steps y ys (slice_index_or also k [])
 
 -- for each of the first `count` nodes, the words by which it can be had
 pub record AreHad (ys : List NodeView) (count : ℕ) (had : List (List Text)) : Type 0 where

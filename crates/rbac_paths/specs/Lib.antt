@@ -22,6 +22,7 @@ pub mod Reasons
 pub mod Rows
 pub mod Searching
 pub mod Seeking
+pub mod SharedLists
 pub mod SharedWords
 pub mod Steps
 pub mod Takeovers

@@ -10,6 +10,7 @@ use Rattle.rbac_model.specs.Policies.{GrantView, PolicyView}
 use Rattle.rbac_paths.specs.Having.{HoldingView}
 use Rattle.rbac_paths.specs.Nodes.{IsAccountNamed}
 use Rattle.rbac_paths.specs.Rows.{MatchesRow}
+use Rattle.rbac_paths.specs.SharedLists.{AreShared}
 use Rattle.rbac_paths.specs.Steps.{CountsThere, StepRowView, kube_system, table}
 use Rattle.rbac_paths.specs.Takeovers.{takeover_of}
 use Rattle.rbac_paths.specs.Taking.{IsBootstrapper}
@@ -156,9 +157,12 @@ abbrev pub GrantTakesWord : PolicyView → List Step → Text → ℕ → Type 0
 GrantTakesWord p steps w n = (g : GrantView) × (slice_get p.grants n ≡ Some g)
     × Any (StepTakesWord g.binding.namespace g.rule.rule w) steps
 
--- for each binding exactly the words that these grants of it take
-pub record AreGrantWords (p : PolicyView) (steps : List Step) (grants : List (List ℕ))
-    (lists : List (List Text)) : Type 0 where
-  pub len : length lists ≡ length grants
-  pub each : (at : ℕ) (w : Text) → Contains (slice_index_or lists at []) w
-      ↔ Any (GrantTakesWord p steps w) (slice_index_or grants at [])
+-- grants with these numbers take the same words as those with the others, by whichever steps
+abbrev pub TakeSameWords : PolicyView → List ℕ → List ℕ → Type 0
+TakeSameWords p ms ns = (steps : List Step) (w : Text)
+    → Any (GrantTakesWord p steps w) ms ↔ Any (GrantTakesWord p steps w) ns
+
+-- for each binding, the place of a list that has exactly the words that these grants of it take
+abbrev pub AreGrantWords : PolicyView → List Step → List (List ℕ) → List (List Text) → List ℕ → Type 0
+AreGrantWords p steps grants = AreShared Text (λ at ws. (w : Text)
+    → Contains ws w ↔ Any (GrantTakesWord p steps w) (slice_index_or grants at [])) (length grants)

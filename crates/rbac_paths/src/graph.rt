@@ -9,28 +9,28 @@ ghost use Rattle.rbac_paths.specs.Having.{rule_of_all};
 ghost use Rattle.rbac_paths.specs.Joints.{AreFewGrants, AreHad, DecideOn, IsHadBy, IsNobody, TakesByWords};
 ghost use Rattle.rbac_paths.specs.Nodes.{NodeView, Somebody, node_of};
 ghost use Rattle.rbac_paths.specs.Paths.{IsGraphOf};
-ghost use Rattle.rbac_paths.specs.SharedWords.{AreGrantWords};
+ghost use Rattle.rbac_paths.specs.SharedLists.{list_of};
 ghost use Rattle.rbac_paths.specs.Takeovers.{HaveTakeovers};
 ghost use Rattle.rbac_paths.specs.TakingOver.{MayGoOn};
 ghost use Rattle.rbac_paths.specs.Told.{HasItsRole};
 ghost use Rattle.rbac_steps.specs.declared.steps.Step.{Step};
 
+use crate::binding_words::words_of_bindings;
 use crate::deciding::{given_by, places_of_lists, taking_grants};
 use crate::holding::{Holding, holdings_of, rule_of_all};
-use crate::listed::listed_at;
+use crate::listed::{list_of, listed_at};
 use crate::node::Node;
 use crate::other_nodes::{Others, over_others, over_others_among};
 use crate::rule_takeovers::RuleTakeovers;
-use crate::same_others::others_of;
+use crate::same_others::OthersTaken;
 use crate::told::{StepRows, rows_of_steps};
-use crate::words::{taken_words, words_of_grants, words_of_whom};
+use crate::words::{taken_words, words_of_whom};
 use rbac_model::Policy;
 use rbac_steps::Step;
 use rbac_subjects::SubjectIndex;
 use rbac_terms::{Items, Rule, Words};
 use rbac_ways::{Graph, listed_in};
 use std::alloc::{AllocError, Global};
-use std::collections::BTreeMap;
 
 /// The graph of some nodes, and the grants that decide what each node takes over.
 pub(crate) struct NodeGraph {
@@ -93,8 +93,9 @@ pub(crate) fn graph_of<'p>(
 
 // The graph. A node has an edge to a user or a group if it takes a word by which that can be had.
 // So a set of many users that many nodes take over is written once. The words that a binding's
-// grants take are made once for all subjects of the binding. Roles, and everything in a scope, are
-// checked one by one.
+// grants take are made once for all subjects of the binding, and for all bindings that grant the
+// same. Roles, and everything in a scope, are checked one by one, once for all nodes that have the
+// same rules there.
 fn joined<'p>(
     alloc: Global,
     policy: &'p Policy,
@@ -116,50 +117,56 @@ fn joined<'p>(
     let all = rule_of_all(alloc)?;
     let rows = rows_of_steps(alloc, &[Step::Bind, Step::Escalate])?;
     let writing = rows.as_slice();
-    let others = Others::of(alloc, nodes)?;
+    let among = Others::of(alloc, nodes)?;
     let few = few_of_bindings(alloc, policy, takeovers, grants)?;
     let few = few.as_slice();
-    let mut lists = words_of_bindings(alloc, policy, takeovers, grants)?;
-    let mut also = Vec::with_capacity(alloc, nodes.len())?;
-    let mut overs = Vec::with_capacity(alloc, nodes.len())?;
-    let mut last = BTreeMap::new(alloc);
+    let mut words = words_of_bindings(alloc, policy, takeovers, grants)?;
+    let takes = lists_taken(alloc, words.places.as_slice(), places)?;
+    let mut others = OthersTaken::none(alloc);
     for (place, node) in nodes.iter().enumerate() {
         let own = listed_at(places, place);
         let holdings = rules_held(alloc, policy, index, &all, *node)?;
         let held = holdings.as_slice();
-        lists.push(words_held(alloc, steps, held, *node)?)?;
+        words.lists.push(words_held(alloc, steps, held, *node)?)?;
         let over = few_taken(alloc, policy, steps, few, held, own, *node)?;
-        let few_over = over.as_slice();
-        let known = overs.as_slice();
-        let before = also.as_slice();
-        let taken = others_of(
-            alloc, steps, writing, few_over, *node, nodes, &others, known, before, &mut last,
-        )?;
-        also.push(taken)?;
-        overs.push(Items::from_vec(over))?;
+        others.add(alloc, steps, writing, over, *node, nodes, &among)?;
     }
     let had_by = words_of_nodes(alloc, nodes)?;
-    let lists = lists.as_slice();
-    Graph::joined(alloc, lists, places, had_by.as_slice(), also.as_slice())
+    Graph::joined(
+        alloc,
+        words.lists.as_slice(),
+        takes.as_slice(),
+        had_by.as_slice(),
+        others.lists.as_slice(),
+        others.places.as_slice(),
+    )
 }
 
-// For each binding, the words that its taking grants take. `grants` has the numbers of these
-// grants.
-fn words_of_bindings(
+// For each of these nodes, the places of its lists of words, where `lists` has the place of the list
+// of each binding.
+fn lists_taken(
     alloc: Global,
-    policy: &Policy,
-    takeovers: &RuleTakeovers,
-    grants: &[Items<u32>],
-) -> Result<Vec<Words>, AllocError>
-    requires { AreGrantsByBinding policy.now grants.now }
-    ensures { (steps : List Step) → HaveTakeovers policy.now.held steps takeovers.now
-        → IfOk result (λ lists. AreGrantWords policy.now steps grants.now lists.items) }
+    lists: &[usize],
+    places: &[Items<usize>],
+) -> Result<Vec<Items<usize>>, AllocError>
+    ensures { IfOk result (λ takes. takes.items ≡ map (map (list_of lists.now)) places.now) }
 {
-    let mut lists = Vec::with_capacity(alloc, grants.len())?;
-    for numbers in grants {
-        lists.push(words_of_grants(alloc, policy, takeovers, numbers.as_slice())?)?;
+    let mut takes = Vec::with_capacity(alloc, places.len())?;
+    for own in places {
+        takes.push(lists_at(alloc, lists, own.as_slice())?)?;
     }
-    Ok(lists)
+    Ok(takes)
+}
+
+// The places of the lists of words for these places of bindings.
+fn lists_at(alloc: Global, lists: &[usize], places: &[usize]) -> Result<Items<usize>, AllocError>
+    ensures { IfOk result (λ found. found ≡ map (list_of lists.now) places.now) }
+{
+    let mut found = Vec::with_capacity(alloc, places.len())?;
+    for place in places {
+        found.push(list_of(lists, *place))?;
+    }
+    Ok(Items::from_vec(found))
 }
 
 // The rules of a role, or of everything in a scope. A user or a group has none here: grants decide

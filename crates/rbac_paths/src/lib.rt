@@ -8,6 +8,7 @@ mod all_paths;
 mod all_steps;
 mod all_ways;
 mod allowed;
+mod binding_words;
 mod bound_names;
 mod deciding;
 mod finding;

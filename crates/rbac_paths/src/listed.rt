@@ -2,6 +2,7 @@
 
 ghost use Rattle.std.specs.Prelude.{◌≡◌, [], false};
 ghost use Rattle.std.specs.Prelude.{slice_index_or};
+ghost use Rattle.rbac_paths.specs.SharedLists.{list_of};
 
 use rbac_terms::Items;
 
@@ -22,5 +23,15 @@ pub(crate) fn is_marked(marks: &[bool], place: usize) -> bool
     match marks.get(place) {
         Some(mark) => *mark,
         None => false,
+    }
+}
+
+/// The place of the list of whatever has this place; the place itself past the last one.
+pub(crate) fn list_of(places: &[usize], place: usize) -> usize
+    ensures { result ≡ list_of places.now place }
+{
+    match places.get(place) {
+        Some(list) => *list,
+        None => place,
     }
 }

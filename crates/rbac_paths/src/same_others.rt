@@ -1,15 +1,17 @@
 //! Nodes that take over the same other nodes, because the same holdings decide which these are.
 
-ghost use Rattle.std.specs.Prelude.{◌≡◌, ◌↔◌, ◌<◌, ◌∷◌, [], IfOk, IsTrue, length, map, slice_index_or};
+ghost use Rattle.std.specs.Prelude.{◌≡◌, ◌↔◌, ◌<◌, ◌+◌, ◌∷◌, ℕ, [], IfOk, IsTrue, List, MatchOption};
+ghost use Rattle.std.specs.Prelude.{OnOk, Some, length, map, slice_get, slice_index_or};
 ghost use Rattle.rbac_model.specs.Policies.{PolicyView};
-ghost use Rattle.rbac_paths.specs.Joints.{AreAmongOthers, AreKnown, AreOthers, DecideOn, IsNobody};
+ghost use Rattle.rbac_paths.specs.Joints.{AreAmongOthers, AreOthers, AreTaken, DecideOn, IsNobody};
 ghost use Rattle.rbac_paths.specs.Nodes.{NodeView, node_of};
 ghost use Rattle.rbac_paths.specs.TakingOver.{MayGoOn};
 ghost use Rattle.rbac_paths.specs.Tracing.{IsAt};
+ghost use Rattle.rbac_steps.specs.declared.steps.Step.{Step};
 ghost use Rattle.rbac_steps.specs.declared.steps.Step.TheVariants.{Bind, Escalate};
 
 use crate::holding::Holding;
-use crate::listed::listed_at;
+use crate::listed::list_of;
 use crate::node::Node;
 use crate::one_path::is_same_scope;
 use crate::other_nodes::{Others, others_taken};
@@ -17,39 +19,131 @@ use crate::told::StepRows;
 use rbac_terms::{Items, Rule, Word, Words};
 use std::alloc::{AllocError, Global};
 use std::collections::BTreeMap;
+use std::marker::Model;
 
-/// The place of the last node with each fingerprint of holdings.
-pub(crate) type Places = BTreeMap<u64, usize>;
+/// The other nodes that the first nodes of a list take over. Nodes that take over the same, because
+/// they have the same holdings, share a list.
+pub(crate) struct OthersTaken<'p> {
+    // For each of these nodes, holdings that are enough to decide it.
+    overs: Vec<Items<Holding<'p>>>,
+    /// The places of these other nodes, a list at the place of each node. A list that a node before
+    /// has is left empty.
+    pub(crate) lists: Vec<Items<usize>>,
+    /// For each of these nodes, the place of its list.
+    pub(crate) places: Vec<usize>,
+    // The place of the last node with each fingerprint of holdings.
+    last: BTreeMap<u64, usize>,
+}
 
-/// The places of the other nodes that the node `from` takes over by these steps, as `others_taken`
-/// finds them. `overs` and `also` have the same for the nodes before it: holdings that are enough to
-/// decide that, and these places. Where a node has the same holdings as one of those, its places are
-/// the same, and aren't looked for again. `last` has the places of those nodes.
-pub(crate) fn others_of(
-    alloc: Global,
-    steps: &[StepRows],
-    writing: &[StepRows],
-    few: &[Holding<'_>],
-    from: Node<'_>,
-    nodes: &[Node<'_>],
-    others: &Others,
-    overs: &[Items<Holding<'_>>],
-    also: &[Items<usize>],
-    last: &mut Places,
-) -> Result<Items<usize>, AllocError>
-    requires writing { writing.now ≡ Bind ∷ Escalate ∷ [] }
-    requires others { AreAmongOthers (map node_of nodes.now) others.now }
-    ensures { (p : PolicyView) → AreKnown p steps.now (map node_of nodes.now) overs.now also.now
-        → DecideOn p steps.now (node_of from.entry) few.now IsNobody
-        → IfOk result
-        (λ js. AreOthers p steps.now (node_of from.entry) (map node_of nodes.now) js) }
-{
-    if let Some(place) = last.insert(fingerprint(few), overs.len())? {
-        if goes_on(from) && goes_on_at(nodes, place) && has_same(overs, place, few) {
-            return copied(alloc, listed_at(also, place));
+impl Drop for OthersTaken<'_> {
+    fn drop(self) {
+        let Self {
+            overs,
+            lists,
+            places,
+            last,
+        } = self;
+    }
+}
+
+impl<'p> Model for OthersTaken<'p> {
+    ghost use Rattle.rbac_paths.specs.Joints.{OthersTakenView};
+
+    ghost Value = { OthersTakenView };
+
+    ghost view = { λ o. record {
+      overs = o.overs.items;
+      lists = o.lists.items;
+      places = o.places.items;
+    } };
+}
+
+impl<'p> OthersTaken<'p> {
+    /// Of no nodes. Doesn't allocate.
+    pub(crate) fn none(alloc: Global) -> Self
+        ensures { (p : PolicyView) (steps : List Step) (ys : List NodeView)
+            → AreTaken p steps ys 0 result }
+    {
+        OthersTaken {
+            overs: Vec::new(alloc),
+            lists: Vec::new(alloc),
+            places: Vec::new(alloc),
+            last: BTreeMap::new(alloc),
         }
     }
-    others_taken(alloc, steps, writing, few, from, nodes, others)
+
+    /// Adds the next node, `from`, and the places of the other nodes that it takes over by these
+    /// steps, as `others_taken` finds them; `few` are holdings that are enough to decide that. Where
+    /// a node before has the same holdings, they aren't looked for again.
+    pub(crate) fn add(
+        &mut self,
+        alloc: Global,
+        steps: &[StepRows],
+        writing: &[StepRows],
+        few: Vec<Holding<'p>>,
+        from: Node<'_>,
+        nodes: &[Node<'_>],
+        others: &Others,
+    ) -> Result<(), AllocError>
+        requires writing { writing.now ≡ Bind ∷ Escalate ∷ [] }
+        requires others { AreAmongOthers (map node_of nodes.now) others.now }
+        ensures { (p : PolicyView) (count : ℕ)
+            → AreTaken p steps.now (map node_of nodes.now) count self.old
+            → slice_get (map node_of nodes.now) count ≡ Some (node_of from.entry)
+            → DecideOn p steps.now (node_of from.entry) few.entry.items IsNobody
+            → OnOk result (AreTaken p steps.now (map node_of nodes.now) (count + 1) self.new) }
+    {
+        match self.same_before(few.as_slice(), from, nodes)? {
+            Some(list) => {
+                self.lists.push(Items::new(alloc))?;
+                self.places.push(list)?;
+            }
+            None => {
+                let found = others_taken(
+                    alloc,
+                    steps,
+                    writing,
+                    few.as_slice(),
+                    from,
+                    nodes,
+                    others,
+                )?;
+                self.places.push(self.lists.len())?;
+                self.lists.push(found)?;
+            }
+        }
+        self.overs.push(Items::from_vec(few))?;
+        Ok(())
+    }
+
+    // The list of a node before that takes over the same as the next node, `from`, which has these
+    // holdings; `None` if none is found.
+    fn same_before(
+        &mut self,
+        few: &[Holding<'_>],
+        from: Node<'_>,
+        nodes: &[Node<'_>],
+    ) -> Result<Option<usize>, AllocError>
+        ensures same { self.new.overs ≡ self.old.overs }
+        ensures lists { self.new.lists ≡ self.old.lists }
+        ensures places { self.new.places ≡ self.old.places }
+        ensures found { (p : PolicyView) (steps : List Step) (count : ℕ)
+            → AreTaken p steps (map node_of nodes.now) count self.old
+            → DecideOn p steps (node_of from.entry) few.now IsNobody
+            → IfOk result (λ o. MatchOption o (Unit {0}) (λ list. (list < count)
+            × AreOthers p steps (node_of from.entry) (map node_of nodes.now)
+            (slice_index_or self.old.lists list []))) }
+    {
+        let next = self.overs.len();
+        let Some(place) = self.last.insert(fingerprint(few), next)? else {
+            return Ok(None);
+        };
+        let overs = self.overs.as_slice();
+        if goes_on(from) && goes_on_at(nodes, place) && has_same(overs, place, few) {
+            return Ok(Some(list_of(self.places.as_slice(), place)));
+        }
+        Ok(None)
+    }
 }
 
 // A number that is the same for the same holdings, and that most others don't have. Nothing is
@@ -63,8 +157,8 @@ fn fingerprint(holdings: &[Holding<'_>]) -> u64 {
     print
 }
 
-// The fingerprint with a word added, or with a mark that there is none.
-fn with_word(print: u64, word: Option<&Word>) -> u64 {
+/// The fingerprint with a word added, or with a mark that there is none.
+pub(crate) fn with_word(print: u64, word: Option<&Word>) -> u64 {
     let Some(word) = word else {
         return print.wrapping_mul(MIXING).wrapping_add(1);
     };
@@ -152,13 +246,4 @@ fn same_words(a: &Words, b: &Words) -> bool
     ensures { IsTrue result ↔ (a.now ≡ b.now) }
 {
     a.as_slice() == b.as_slice()
-}
-
-// A list of the same places.
-fn copied(alloc: Global, places: &[usize]) -> Result<Items<usize>, AllocError>
-    ensures { IfOk result (λ js. js ≡ places.now) }
-{
-    let mut all = Vec::new(alloc);
-    all.extend_from_slice(places)?;
-    Ok(Items::from_vec(all))
 }

@@ -6,14 +6,10 @@ use Rattle.std.proofs.lemmas.List.{get_or-take, get_or_default, length-take}
 use Rattle.std.proofs.lemmas.List.Kept.{AllPairs-from_increasing}
 use Rattle.std.specs.List.Sorted.{IsStrictlyIncreasing}
 use Rattle.std.proofs.lemmas.List.Elements.{Contains-append_left}
-use Rattle.rbac_ways.proofs.Meets.{is_some_of, meets_same, meets_then, none_some, of_pushed, pushed_here, still_met}
-use Rattle.rbac_ways.specs.Meeting.{AreMet, IsAfterLeast, IsNext, IsNextTo, IsOneOf, MeetsNodes, stop_behind, stop_at}
+use Rattle.rbac_ways.proofs.Meets.{is_some_of, meets_then, none_some, of_pushed, pushed_here, still_met}
+use Rattle.rbac_ways.specs.Meeting.{AreMet, IsAfterLeast, IsNext, IsNextTo, IsOneOf, ListHas, MeetsNodes, SomeHas, stop_behind, stop_at}
 use Rattle.rbac_ways.specs.Ways.{GraphView, IsEdge}
 use Rattle.rbac_ways.specs.declared.graph.Stop.{Stop}
-
--- the nodes of a set
-abbrev members : GraphView → ℕ → List ℕ
-members g k = get_or g.sets k []
 
 pub in_none : {X : Type 0} (xs : List X) (x : X) → xs ≡ [] → Contains xs x → ⊥
 in_none {X = X} xs x e w = let none : Contains {X = X} [] x = subst (λ (ys : List X). Contains ys x) e w in absurd (omega (arith, none.1))
@@ -25,60 +21,47 @@ stop_within stops j s e = elim (cases_lt j (length stops)) [
   | inr le ↦ absurd (none_some (stop_at stops j) (get_or-eq_default stops None le) (is_some_of (stop_at stops j) s e))
 ]
 
--- the nodes of a set that is passed now are met
-pub met_more : (g : GraphView) (passed : List Bool) (old new : List (Option Stop)) (May : ℕ → Stop → Type 0) (l m : List ℕ) (k : ℕ) → k < length passed
-    → AreMet g passed old → MeetsNodes (Contains (members g k)) May old new l m → AreMet g (set passed k true) new
-met_more g passed old new May l m k low met meets at j is has there = elim (cases_eq at k) [
-  | inl same ↦ meets.due j (subst (λ (a : ℕ). Contains (members g a) j) same has) (let len = meets.len in omega (arith, len, there))
-  | inr ne ↦ still_met old new meets.kept j (met at j (sym (get_or-set_other passed k at true false ne) ∙ is) has (let len = meets.len in omega (arith, len, there)))
-]
+module _ (Has : ℕ → ℕ → Type 0) where
+  -- the nodes of one that is passed now are met
+  pub met_more : (passed : List Bool) (old new : List (Option Stop)) (May : ℕ → Stop → Type 0) (l m : List ℕ) (k : ℕ) → AreMet Has passed old → MeetsNodes (Has k) May old new l m → AreMet Has (set passed k true) new
+  met_more passed old new May l m k met meets at j is has there = elim (cases_eq at k) [
+    | inl same ↦ meets.due j (subst (λ (a : ℕ). Has a j) same has) (let len = meets.len in omega (arith, len, there))
+    | inr ne ↦ still_met old new meets.kept j (met at j (sym (get_or-set_other passed k at true false ne) ∙ is) has (let len = meets.len in omega (arith, len, there)))
+  ]
 
--- a set that was passed, or that isn't there, has no node to meet
-pub meets_passed : (g : GraphView) (passed : List Bool) (stops : List (Option Stop)) (level : List ℕ) (stop : Stop) (k : ℕ) → AreMet g passed stops → length passed ≡ length g.sets
-    → (k < length passed → get_or passed k false ≡ true) → MeetsNodes (Contains (members g k)) (IsOneOf (members g k) stop) stops stops level level
-meets_passed g passed stops level stop k met len is = meets_same (Contains (members g k)) (IsOneOf (members g k) stop) stops level
-    (λ j has low. elim (cases_lt k (length passed)) [
-      | inl l ↦ met k j (is l) has low
-      | inr le ↦ absurd (in_none (members g k) j (get_or-eq_default g.sets [] (omega (arith, len, le))) has)
-    ])
+  pub meets_more : (ks : List ℕ) (k : ℕ) (stop : Stop) (old between new : List (Option Stop)) (before middle after : List ℕ)
+      → MeetsNodes (SomeHas Has ks) (IsOneOf (SomeHas Has ks) stop) old between before middle → MeetsNodes (Has k) (IsOneOf (Has k) stop) between new middle after
+      → MeetsNodes (SomeHas Has (ks ++ k ∷ [])) (IsOneOf (SomeHas Has (ks ++ k ∷ [])) stop) old new before after
+  meets_more ks k stop old between new before middle after first second =
+      meets_then (SomeHas Has ks) (Has k) (SomeHas Has (ks ++ k ∷ [])) (IsOneOf (SomeHas Has ks) stop) (IsOneOf (Has k) stop) (IsOneOf (SomeHas Has (ks ++ k ∷ [])) stop) old between new before middle after first second
+      (λ j w. elim (of_pushed ks k w.0 w.1) [
+        | inl h ↦ inl (w.0, h, w.2)
+        | inr same ↦ inr (subst (λ (x : ℕ). Has x j) same w.2)
+      ])
+      (λ j s w. ((w.0.0, Contains-append_left ks (k ∷ []) w.0.0 w.0.1, w.0.2), w.1))
+      (λ j s not w. ((k, pushed_here ks k k refl, w.0), w.1))
 
--- j is in one of these sets
-abbrev pub IsInSome : GraphView → List ℕ → ℕ → Type 0
-IsInSome g ks j = (k : ℕ) × Contains ks k × Contains (members g k) j
-
-abbrev pub MayBeIn : GraphView → List ℕ → Stop → ℕ → Stop → Type 0
-MayBeIn g ks stop j s = IsInSome g ks j × (s ≡ stop)
-
-pub meets_no_set : (g : GraphView) (stop : Stop) (stops : List (Option Stop)) (level : List ℕ) → MeetsNodes (IsInSome g []) (MayBeIn g [] stop) stops stops level level
-meets_no_set g stop stops level = meets_same (IsInSome g []) (MayBeIn g [] stop) stops level (λ j w low. absurd (in_none [] w.0 refl w.1))
-
-pub meets_set : (g : GraphView) (ks : List ℕ) (k : ℕ) (stop : Stop) (old between new : List (Option Stop)) (before middle after : List ℕ)
-    → MeetsNodes (IsInSome g ks) (MayBeIn g ks stop) old between before middle → MeetsNodes (Contains (members g k)) (IsOneOf (members g k) stop) between new middle after
-    → MeetsNodes (IsInSome g (ks ++ k ∷ [])) (MayBeIn g (ks ++ k ∷ []) stop) old new before after
-meets_set g ks k stop old between new before middle after first second =
-    meets_then (IsInSome g ks) (Contains (members g k)) (IsInSome g (ks ++ k ∷ [])) (MayBeIn g ks stop) (IsOneOf (members g k) stop) (MayBeIn g (ks ++ k ∷ []) stop) old between new before middle after first second
-    (λ j w. elim (of_pushed ks k w.0 w.1) [
-      | inl h ↦ inl (w.0, h, w.2)
-      | inr same ↦ inr (subst (λ (x : ℕ). Contains (members g x) j) same w.2)
-    ])
-    (λ j s w. ((w.0.0, Contains-append_left ks (k ∷ []) w.0.0 w.0.1, w.0.2), w.1))
-    (λ j s not w. ((k, pushed_here ks k k refl, w.0), w.1))
-
--- all sets that a node takes are all its edges
+-- all lists that a node takes are all its edges
 pub meets_edges : (g : GraphView) (i edges : ℕ) (old new : List (Option Stop)) (l m : List ℕ) → length old ≡ length g.takes
-    → MeetsNodes (IsInSome g (get_or g.takes i [])) (MayBeIn g (get_or g.takes i []) (stop_behind edges i)) old new l m → MeetsNodes (IsEdge g i) (IsNext g edges i) old new l m
+    → MeetsNodes (SomeHas (ListHas g) (get_or g.takes i [])) (IsOneOf (SomeHas (ListHas g) (get_or g.takes i [])) (stop_behind edges i)) old new l m → MeetsNodes (IsEdge g i) (IsNext g edges i) old new l m
 meets_edges g i edges old new l m len meets = record {
   len = meets.len;
   kept = meets.kept;
-  due = λ j edge low. meets.due j (edge.set, edge.takes, edge.has) low;
-  may = λ j s none e. (let w = meets.may j s none e in
-      (record { set = w.0.0; takes = w.0.1; has = w.0.2; node = let low = stop_within new j s e in let same = meets.len in omega (arith, low, same, len) }, w.1));
+  due = λ j edge low. meets.due j (edge.list, edge.takes, (edge.set, edge.lists, edge.has)) low;
+  may = λ j s none e. (let w = meets.may j s none e in (
+    record {
+      list = w.0.0;
+      set = w.0.2.0;
+      takes = w.0.1;
+      lists = w.0.2.1;
+      has = w.0.2.2;
+      node = let low = stop_within new j s e in let same = meets.len in omega (arith, low, same, len);
+    },
+    w.1,
+  ));
   joins = meets.joins;
   room = meets.room;
 }
-
-pub meets_no_node : (g : GraphView) (edges : ℕ) (stops : List (Option Stop)) (level : List ℕ) → MeetsNodes (IsNextTo g []) (IsAfterLeast g [] edges) stops stops level level
-meets_no_node g edges stops level = meets_same (IsNextTo g []) (IsAfterLeast g [] edges) stops level (λ j w low. absurd (in_none [] w.0 refl w.1))
 
 -- what is before a place of an ascending list is less than what is there
 pub less_before : (xs : List ℕ) (i x b : ℕ) → IsStrictlyIncreasing xs → i < length xs → get_or xs i 0 ≡ x → Contains (take i xs) b → b < x

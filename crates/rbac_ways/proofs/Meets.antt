@@ -27,17 +27,6 @@ none_some (Some y) e is = let both : Some y ≡ None = e in cc
 pub still_met : (old new : List (Option Stop)) → ((j : ℕ) (s : Stop) → stop_at old j ≡ Some s → stop_at new j ≡ Some s) → (j : ℕ) → IsSome (stop_at old j) → IsSome (stop_at new j)
 still_met old new kept j is = let w = some_of (stop_at old j) is in is_some_of (stop_at new j) w.0 (kept j w.0 w.1)
 
--- nothing changes
-pub meets_same : (Due : ℕ → Type 0) (May : ℕ → Stop → Type 0) (stops : List (Option Stop)) (level : List ℕ) → ((j : ℕ) → Due j → j < length stops → IsSome (stop_at stops j)) → MeetsNodes Due May stops stops level level
-meets_same Due May stops level due = record {
-  len = refl;
-  kept = λ j s e. e;
-  due = due;
-  may = λ j s none e. absurd (none_some (stop_at stops j) none (is_some_of (stop_at stops j) s e));
-  joins = λ j. (λ h. inl h, λ h. elim h [ inl l ↦ l | inr w ↦ absurd (none_some (stop_at stops j) w.0 w.1) ]);
-  room = omega arith;
-}
-
 -- one meeting after another
 module _ (DueFirst DueNext Due : ℕ → Type 0) (MayFirst MayNext May : ℕ → Stop → Type 0) (old between new : List (Option Stop)) (before middle after : List ℕ)
     (first : MeetsNodes DueFirst MayFirst old between before middle) (second : MeetsNodes DueNext MayNext between new middle after) where

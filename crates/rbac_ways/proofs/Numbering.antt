@@ -1,4 +1,4 @@
--- the words of all nodes, and their numbers
+-- the words of all nodes, their numbers, and the lists that have these
 use Rattle.std.proofs.Common.{◌≡◌, ◌<◌, ◌≤◌, ◌+◌, ◌++◌, ◌∷◌, [], ◌⊎◌, ◌↔◌, ℕ, List, Some, None, Result, Ok, Err, Contains, length, length-append, get_or, slice_get, take, inl, inr, refl, sym, ap, ◌∙◌, subst, arith, false, true}
 use Rattle.std.specs.Cmp.Lexicographic.{texts_ties}
 use Rattle.std.specs.List.Retain.{IsFiltered, DiffersFromLast}
@@ -20,9 +20,9 @@ use Rattle.std.proofs.lemmas.Option.{get_or_from_slice_get, same_Some, slice_get
 use Rattle.std.proofs.lemmas.Slice.Eq.{bytes_eq-Decides}
 use Rattle.rbac_terms.proofs.Halving.{found_iff}
 use Rattle.rbac_terms.specs.Text.{Text, text_cmp}
-use Rattle.rbac_ways.proofs.Meets.{of_pushed, pushed_here}
+use Rattle.rbac_ways.proofs.Meets.{of_pushed, one, pushed_here}
 use Rattle.rbac_ways.proofs.Turning.{listed_within}
-use Rattle.rbac_ways.specs.Joining.{AreNumbersOfEach, AreWordsOf, IsListedAt, IsListedIn, IsNumberOf, TakesSet}
+use Rattle.rbac_ways.specs.Joining.{AreLists, AreWordsOf, HasNumber, HasSet, IsListedAt, IsNumberOf, TakesList, TakesOwn}
 
 -- the word is in one of the lists
 abbrev pub IsInOne : List (List Text) → Text → Type 0
@@ -126,51 +126,80 @@ more_with words listed w found numbers are is number = (
   ],
 )
 
--- the lists below a bound have their numbers
-pub record AreNumberedBelow (words : List Text) (lists : List (List Text)) (bound : ℕ) (numbers : List (List ℕ)) : Type 0 where
-  pub len : length numbers ≡ bound
-  pub each : (k number : ℕ) → k < bound → IsListedAt numbers k number ↔ IsNumberOf words (get_or lists k []) number
-
-pub numbered_more : (words : List Text) (lists : List (List Text)) (bound : ℕ) (numbers : List (List ℕ)) (own : List ℕ) → ((number : ℕ) → Contains own number ↔ IsNumberOf words (get_or lists bound []) number)
-    → AreNumberedBelow words lists bound numbers → AreNumberedBelow words lists (bound + 1) (numbers ++ own ∷ [])
-numbered_more words lists bound numbers own are below = record {
-  len = length-append numbers (own ∷ []) ∙ ap (λ (n : ℕ). n + 1) below.len;
-  each = λ k number low. elim (cases_eq k bound) [
-    | inl same ↦ subst (λ (i : ℕ). IsListedAt (numbers ++ own ∷ []) i number ↔ IsNumberOf words (get_or lists i []) number) (sym same)
-        (subst (λ (xs : List ℕ). Contains xs number ↔ IsNumberOf words (get_or lists bound []) number) (sym (get_or_at numbers own [] [] bound below.len)) (are number))
-    | inr ne ↦ subst (λ (xs : List ℕ). Contains xs number ↔ IsNumberOf words (get_or lists k []) number) (sym (get_or_append_left numbers (own ∷ []) [] k (let len = below.len in omega (arith, low, ne, len))))
-        (below.each k number (omega (arith, low, ne)))
+-- one list more
+pub lists_more : (Has : ℕ → ℕ → Type 0) (count : ℕ) (lists : List (List ℕ)) (own : List ℕ) → ((n : ℕ) → Contains own n ↔ Has count n) → AreLists Has count lists → AreLists Has (count + 1) (lists ++ own ∷ [])
+lists_more Has count lists own are below = record {
+  len = length-append lists (own ∷ []) ∙ ap (λ (n : ℕ). n + 1) below.len;
+  each = λ i n low. elim (cases_eq i count) [
+    | inl same ↦ subst (λ (k : ℕ). IsListedAt (lists ++ own ∷ []) k n ↔ Has k n) (sym same)
+        (subst (λ (xs : List ℕ). Contains xs n ↔ Has count n) (sym (get_or_at lists own [] [] count below.len)) (are n))
+    | inr ne ↦ subst (λ (xs : List ℕ). Contains xs n ↔ Has i n) (sym (get_or_append_left lists (own ∷ []) [] i (let len = below.len in omega (arith, low, ne, len))))
+        (below.each i n (omega (arith, low, ne)))
   ];
 }
 
-pub numbered_all : (words : List Text) (lists : List (List Text)) (bound : ℕ) (numbers : List (List ℕ)) → bound ≡ length lists → AreNumberedBelow words lists bound numbers → AreNumbersOfEach words lists numbers
-numbered_all words lists bound numbers end below k number = (
-  λ h. (below.each k number (let low = listed_within numbers k number h in let len = below.len in omega (arith, low, len))).0 h,
-  λ w. (below.each k number (let low = listed_within lists k w.0 w.1 in omega (arith, low, end))).1 w,
+-- the lists of words, and then a list with one set
+pub no_single : (words : List Text) (lists : List (List Text)) (numbers : List (List ℕ)) → AreLists (HasNumber words lists) (length lists) numbers → AreLists (HasSet words lists) (length lists + 0) numbers
+no_single words lists numbers are = record {
+  len = let len = are.len in omega (arith, len);
+  each = λ k set low. (let within : k < length lists = omega (arith, low) in
+      (λ h. inl ((are.each k set within).0 h), λ h. elim h [ inl x ↦ (are.each k set within).1 x | inr w ↦ absurd (let past = w.1 in omega (arith, past, within)) ]));
+}
+
+-- the list that comes so far after those of words has one set
+pub is_single : (words : List Text) (lists : List (List Text)) (place set : ℕ) → HasSet words lists (length lists + place) set → set ≡ length words + place
+is_single words lists place set has = elim has [
+  | inl w ↦ absurd (let low = listed_within lists (length lists + place) w.0 w.1 in omega (arith, low))
+  | inr w ↦ (let list = w.1 in let is = w.2 in omega (arith, list, is))
+]
+
+pub one_single : (words : List Text) (lists : List (List Text)) (place : ℕ) (all : List (List ℕ)) → AreLists (HasSet words lists) (length lists + place) all
+    → AreLists (HasSet words lists) (length lists + (place + 1)) (all ++ ((length words + place) ∷ []) ∷ [])
+one_single words lists place all are =
+    subst (λ (n : ℕ). AreLists (HasSet words lists) n (all ++ ((length words + place) ∷ []) ∷ [])) (let one_more : length lists + place + 1 ≡ length lists + (place + 1) = omega arith in one_more)
+    (lists_more (HasSet words lists) (length lists + place) all ((length words + place) ∷ []) (λ set. (
+      λ h. inr (place, refl, one (length words + place) set h),
+      λ h. pushed_here [] (length words + place) set (is_single words lists place set h),
+    )) are)
+
+-- the lists at a node's places, and one of its own
+pub takes_lists : (count more : ℕ) (takes : List (List ℕ)) (own : List ℕ) (node : ℕ) (below taken : List ℕ) → ((n : ℕ) → Contains below n ↔ (IsListedAt takes node n × (n < count)))
+    → ((n : ℕ) → Contains taken n ↔ (Contains below n ⊎ TakesOwn count more own node n)) → (n : ℕ) → Contains taken n ↔ TakesList count more takes own node n
+takes_lists count more takes own node below taken places all n = (
+  λ h. elim ((all n).0 h) [ inl x ↦ inl ((places n).0 x) | inr w ↦ inr w ],
+  λ h. (all n).1 (elim h [ inl x ↦ inl ((places n).1 x) | inr w ↦ inr w ]),
 )
 
--- the nodes below a bound take their sets
-pub record AreTakenBelow (count : ℕ) (numbers takes : List (List ℕ)) (bound : ℕ) (sets : List (List ℕ)) : Type 0 where
-  pub len : length sets ≡ bound
-  pub each : (i set : ℕ) → i < bound → IsListedAt sets i set ↔ TakesSet count numbers takes i set
+pub own_past : (count more : ℕ) (own : List ℕ) (node place : ℕ) (taken : List ℕ) → slice_get own node ≡ Some place → more ≤ place → (n : ℕ) → Contains taken n ↔ (Contains taken n ⊎ TakesOwn count more own node n)
+own_past count more own node place taken is past n = (
+  λ h. inl h,
+  λ h. elim h [ inl x ↦ x | inr w ↦ absurd (let same = same_Some w.0 place (sym w.1 ∙ is) in let low = w.2 in omega (arith, same, low, past)) ],
+)
 
-pub taken_more : (count : ℕ) (numbers takes : List (List ℕ)) (node : ℕ) (sets : List (List ℕ)) (listed : List ℕ) → ((set : ℕ) → Contains listed set ↔ IsListedIn numbers (get_or takes node []) set)
-    → AreTakenBelow count numbers takes node sets → AreTakenBelow count numbers takes (node + 1) (sets ++ (listed ++ (count + node) ∷ []) ∷ [])
-taken_more count numbers takes node sets listed are below = record { len = length-append sets (taken ∷ []) ∙ ap (λ (n : ℕ). n + 1) below.len; each = each }
-  where
-    taken : List ℕ
-    taken = listed ++ (count + node) ∷ []
+pub own_here : (count more : ℕ) (own : List ℕ) (node place : ℕ) (taken : List ℕ) → slice_get own node ≡ Some place → place < more → (n : ℕ) → Contains (taken ++ (count + place) ∷ []) n ↔ (Contains taken n ⊎ TakesOwn count more own node n)
+own_here count more own node place taken is low n = (
+  λ h. elim (of_pushed taken (count + place) n h) [ inl x ↦ inl x | inr same ↦ inr (place, is, low, same) ],
+  λ h. elim h [
+    | inl x ↦ Contains-append_left taken ((count + place) ∷ []) n x
+    | inr w ↦ pushed_here taken (count + place) n (let same = same_Some w.0 place (sym w.1 ∙ is) in let at = w.3 in omega (arith, same, at))
+  ],
+)
 
-    last : (set : ℕ) → Contains taken set ↔ TakesSet count numbers takes node set
-    last set = (
-      λ h. elim (of_pushed listed (count + node) set h) [ inl x ↦ inl ((are set).0 x) | inr same ↦ inr same ],
-      λ h. elim h [ inl x ↦ Contains-append_left listed ((count + node) ∷ []) set ((are set).1 x) | inr same ↦ pushed_here listed (count + node) set same ],
-    )
+-- the numbers below a bound, and one more number
+pub below_with : (numbers below : List ℕ) (bound number : ℕ) → ((n : ℕ) → Contains below n ↔ (Contains numbers n × (n < bound))) → number < bound → (n : ℕ) → Contains (below ++ number ∷ []) n ↔ (Contains (numbers ++ number ∷ []) n × (n < bound))
+below_with numbers below bound number are low n = (
+  λ h. elim (of_pushed below number n h) [
+    | inl x ↦ (let w = (are n).0 x in (Contains-append_left numbers (number ∷ []) n w.0, w.1))
+    | inr same ↦ (pushed_here numbers number n same, omega (arith, same, low))
+  ],
+  λ w. elim (of_pushed numbers number n w.0) [
+    | inl x ↦ Contains-append_left below (number ∷ []) n ((are n).1 (x, w.1))
+    | inr same ↦ pushed_here below number n same
+  ],
+)
 
-    each : (i set : ℕ) → i < node + 1 → IsListedAt (sets ++ taken ∷ []) i set ↔ TakesSet count numbers takes i set
-    each i set low = elim (cases_eq i node) [
-      | inl same ↦ subst (λ (k : ℕ). IsListedAt (sets ++ taken ∷ []) k set ↔ TakesSet count numbers takes k set) (sym same)
-          (subst (λ (xs : List ℕ). Contains xs set ↔ TakesSet count numbers takes node set) (sym (get_or_at sets taken [] [] node below.len)) (last set))
-      | inr ne ↦ subst (λ (xs : List ℕ). Contains xs set ↔ TakesSet count numbers takes i set) (sym (get_or_append_left sets (taken ∷ []) [] i (let len = below.len in omega (arith, low, ne, len))))
-          (below.each i set (omega (arith, low, ne)))
-    ]
+pub below_without : (numbers below : List ℕ) (bound number : ℕ) → ((n : ℕ) → Contains below n ↔ (Contains numbers n × (n < bound))) → bound ≤ number → (n : ℕ) → Contains below n ↔ (Contains (numbers ++ number ∷ []) n × (n < bound))
+below_without numbers below bound number are past n = (
+  λ h. (let w = (are n).0 h in (Contains-append_left numbers (number ∷ []) n w.0, w.1)),
+  λ w. elim (of_pushed numbers number n w.0) [ inl x ↦ (are n).1 (x, w.1) | inr same ↦ absurd (let low = w.1 in omega (arith, same, low, past)) ],
+)

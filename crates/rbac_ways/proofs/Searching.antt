@@ -1,5 +1,5 @@
 -- the search, level by level
-use Rattle.std.proofs.Common.{◌≡◌, ◌+◌, ◌<◌, [], ℕ, zero, suc, List, Option, Some, None, IsSome, Contains, MatchOption, false, true, length, replicate, inl, inr, refl, sym, ap, ◌∙◌, subst, arith}
+use Rattle.std.proofs.Common.{◌≡◌, ◌+◌, ◌<◌, [], ℕ, zero, suc, List, Option, Some, None, IsSome, Contains, MatchOption, length, replicate, inl, inr, refl, sym, ap, ◌∙◌, subst, arith}
 use Rattle.std.proofs.Math.ListN.{get_or-eq_default}
 use Rattle.std.proofs.lemmas.Bool.{cases_eq, cases_lt}
 use Rattle.std.proofs.lemmas.List.{get_or-replicate, length-replicate}
@@ -7,7 +7,7 @@ use Rattle.std.proofs.lemmas.Option.{same_Some}
 use Rattle.std.specs.List.Sorted.{IsStrictlyIncreasing}
 use Rattle.rbac_ways.proofs.Meets.{either, is_some_of, none_some, some_of}
 use Rattle.rbac_ways.proofs.Edges.{in_none, stop_within}
-use Rattle.rbac_ways.specs.Meeting.{AreMet, IsAfterLeast, IsMetTo, IsNextTo, IsFirstStop, MeetsNodes, stop_behind, stop_at, unmet}
+use Rattle.rbac_ways.specs.Meeting.{IsAfterLeast, IsMetTo, IsNextTo, IsFirstStop, MeetsNodes, stop_behind, stop_at, unmet}
 use Rattle.rbac_ways.specs.Ways.{AreStops, GraphView, IsEdge, IsLeastBefore, IsNearest, IsStop, IsReachedIn}
 use Rattle.rbac_ways.specs.declared.graph.Stop.{Stop}
 
@@ -21,13 +21,6 @@ none_met n j = elim (cases_lt j n) [
   | inl l ↦ get_or-replicate n j None None l
   | inr le ↦ get_or-eq_default (replicate n None) None (let nothing : Option Stop = None in let len = length-replicate n nothing in omega (arith, le, len))
 ]
-
--- no set was passed yet
-pub none_passed : (g : GraphView) (n : ℕ) (stops : List (Option Stop)) → AreMet g (replicate n false) stops
-none_passed g n stops k j is has low = absurd (elim (cases_lt k n) [
-  | inl l ↦ (let both : false ≡ true = sym (get_or-replicate n k false false l) ∙ is in cc)
-  | inr le ↦ (let both : false ≡ true = sym (get_or-eq_default (replicate n false) false (let len = length-replicate n false in omega (arith, le, len))) ∙ is in cc)
-])
 
 -- the starts are the first level
 module _ (g : GraphView) (starts : List ℕ) (stops : List (Option Stop)) (level : List ℕ)

@@ -16,19 +16,7 @@ listed_within lists i x has = elim (cases_lt i (length lists)) [
   | inr le ↦ absurd (in_none (get_or lists i []) x (get_or-eq_default lists [] le) has)
 ]
 
--- a node is added nowhere, past the last list, and to one list
-pub adds_none : (node : ℕ) (lists : List (List ℕ)) → AddsToEach [] node lists lists
-adds_none node lists = record {
-  len = refl;
-  each = λ i j low. (λ h. inl h, λ h. elim h [ inl l ↦ l | inr w ↦ absurd (in_none [] i refl w.1) ]);
-}
-
-pub adds_past : (place node : ℕ) (lists : List (List ℕ)) → length lists ≤ place → AddsToEach (place ∷ []) node lists lists
-adds_past place node lists past = record {
-  len = refl;
-  each = λ i j low. (λ h. inl h, λ h. elim h [ inl l ↦ l | inr w ↦ absurd (let same = one place i w.1 in omega (arith, same, low, past)) ]);
-}
-
+-- a node is added to one list
 pub adds_here : (place node : ℕ) (lists : List (List ℕ)) → place < length lists → AddsToEach (place ∷ []) node lists (set lists place (get_or lists place [] ++ node ∷ []))
 adds_here place node lists low = record { len = length-set lists place more; each = each }
   where
@@ -113,16 +101,30 @@ all_turned lists count turned bound all below = record {
   each = λ i j low. listed_all (IsListedAt lists) count bound turned (λ k n has. let there = listed_within lists k n has in omega (arith, there, all)) below j i low;
 }
 
+pub turned_of : (ls ms first second turned : List (List ℕ)) → first ≡ ls → second ≡ ms → AreTurned first (length second) turned → AreTurned ls (length ms) turned
+turned_of ls ms first second turned e f are = subst (λ (xs : List (List ℕ)). AreTurned ls (length xs) turned) f (subst (λ (xs : List (List ℕ)). AreTurned xs (length second) turned) e are)
+
 -- a graph whose lists are turned round has its edges turned round
-pub turned_edges : (g h : GraphView) → AreTurned g.sets (length g.takes) h.takes → AreTurned g.takes (length g.sets) h.sets → (i j : ℕ) → IsEdge h i j ↔ IsEdge g j i
-turned_edges g h takes sets i j = (
-  λ e. (let node : i < length g.takes = (let low = listed_within h.takes i e.set e.takes in let same = takes.len in omega (arith, low, same)) in
-      let set : e.set < length g.sets = (let low = listed_within h.sets e.set j e.has in let same = sets.len in omega (arith, low, same)) in
-      record { set = e.set; takes = (sets.each j e.set set).0 e.has; has = (takes.each e.set i node).0 e.takes; node = node }),
+pub turned_edges : (g h : GraphView) → AreTurned g.sets (length g.takes) h.takes → AreTurned g.lists (length g.sets) h.lists → AreTurned g.takes (length g.lists) h.sets → (i j : ℕ) → IsEdge h i j ↔ IsEdge g j i
+turned_edges g h takes lists sets i j = (
+  λ e.
+      (let node : i < length g.takes = (let low = listed_within h.takes i e.list e.takes in let same = takes.len in omega (arith, low, same)) in
+      let set : e.list < length g.sets = (let low = listed_within h.lists e.list e.set e.lists in let same = lists.len in omega (arith, low, same)) in
+      let list : e.set < length g.lists = (let low = listed_within h.sets e.set j e.has in let same = sets.len in omega (arith, low, same)) in
+      record {
+        list = e.set;
+        set = e.list;
+        takes = (sets.each j e.set list).0 e.has;
+        lists = (lists.each e.set e.list set).0 e.lists;
+        has = (takes.each e.list i node).0 e.takes;
+        node = node;
+      }),
   λ e. record {
-    set = e.set;
+    list = e.set;
+    set = e.list;
     takes = (takes.each e.set i e.node).1 e.has;
-    has = (sets.each j e.set (listed_within g.sets e.set i e.has)).1 e.takes;
-    node = (let low = listed_within g.takes j e.set e.takes in let same = takes.len in omega (arith, low, same));
+    lists = (lists.each e.list e.set (listed_within g.sets e.set i e.has)).1 e.lists;
+    has = (sets.each j e.list (listed_within g.lists e.list e.set e.lists)).1 e.takes;
+    node = (let low = listed_within g.takes j e.list e.takes in let same = takes.len in omega (arith, low, same));
   },
 )

@@ -18,6 +18,10 @@ SharesWord lists takes had_by i j = (w : Text) × IsListedIn lists (slice_index_
 abbrev pub IsListedAt : List (List ℕ) → ℕ → ℕ → Type 0
 IsListedAt lists place number = Contains (slice_index_or lists place []) number
 
+-- node i takes the nodes of the list of `also` at its own place
+abbrev pub TakesListed : List (List ℕ) → List ℕ → ℕ → ℕ → Type 0
+TakesListed also own i j = (place : ℕ) × (slice_get own i ≡ Some place) × IsListedAt also place j
+
 -- turned has `count` lists, and its list j has i exactly if list i has j
 pub record AreTurned (lists : List (List ℕ)) (count : ℕ) (turned : List (List ℕ)) : Type 0 where
   pub len : length turned ≡ count
@@ -32,16 +36,31 @@ pub record AreWordsOf (lists : List (List Text)) (words : List Text) : Type 0 wh
 abbrev pub IsNumberOf : List Text → List Text → ℕ → Type 0
 IsNumberOf words listed number = (w : Text) × Contains listed w × (slice_get words number ≡ Some w)
 
--- the numbers of the words of each list
-abbrev pub AreNumbersOfEach : List Text → List (List Text) → List (List ℕ) → Type 0
-AreNumbersOfEach words lists numbers = (k number : ℕ) → IsListedAt numbers k number
-    ↔ IsNumberOf words (slice_index_or lists k []) number
+-- this many lists, each of which has exactly what it shall have
+pub record AreLists (Has : ℕ → ℕ → Type 0) (count : ℕ) (lists : List (List ℕ)) : Type 0 where
+  pub len : length lists ≡ count
+  pub each : (i number : ℕ) → i < count → IsListedAt lists i number ↔ Has i number
 
--- node i takes the sets whose numbers the lists at its places have, and one of its own, which comes
--- after this many sets
-abbrev pub TakesSet : ℕ → List (List ℕ) → List (List ℕ) → ℕ → ℕ → Type 0
-TakesSet count numbers takes i set = IsListedIn numbers (slice_index_or takes i []) set
-    ⊎ (set ≡ count + i)
+-- list k has the numbers of its words
+abbrev pub HasNumber : List Text → List (List Text) → ℕ → ℕ → Type 0
+HasNumber words lists k number = IsNumberOf words (slice_index_or lists k []) number
+
+-- list k has the sets of its words; each list after those of words has one set, which comes as far
+-- after the sets of words as the list after those of words
+abbrev pub HasSet : List Text → List (List Text) → ℕ → ℕ → Type 0
+HasSet words lists k set = HasNumber words lists k set
+    ⊎ ((place : ℕ) × (k ≡ length lists + place) × (set ≡ length words + place))
+
+-- node i has a place of its own below `more`, and takes the list that comes so far after the first
+-- `count` lists
+abbrev pub TakesOwn : ℕ → ℕ → List ℕ → ℕ → ℕ → Type 0
+TakesOwn count more own i list = (place : ℕ) × (slice_get own i ≡ Some place)
+    × (place < more) × (list ≡ count + place)
+
+-- node i takes the lists at its places, of which there are `count`, and one at its own place
+abbrev pub TakesList : ℕ → ℕ → List (List ℕ) → List ℕ → ℕ → ℕ → Type 0
+TakesList count more takes own i list = (IsListedAt takes i list × (list < count))
+    ⊎ TakesOwn count more own i list
 
 -- new is old with the node added to the lists at these places
 pub record AddsToEach (places : List ℕ) (node : ℕ) (old new : List (List ℕ)) : Type 0 where

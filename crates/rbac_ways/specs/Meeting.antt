@@ -32,8 +32,8 @@ abbrev pub stop_behind : ℕ → ℕ → Stop
 stop_behind edges i = record { edges = edges; before = i }
 
 -- the node is one of these, and has that stop
-abbrev pub IsOneOf : List ℕ → Stop → ℕ → Stop → Type 0
-IsOneOf nodes stop j s = Contains nodes j × (s ≡ stop)
+abbrev pub IsOneOf : (ℕ → Type 0) → Stop → ℕ → Stop → Type 0
+IsOneOf Due stop j s = Due j × (s ≡ stop)
 
 -- the node is one of the starts, and has no node before it
 abbrev pub IsFirstStop : List ℕ → ℕ → Stop → Type 0
@@ -53,10 +53,30 @@ pub record IsAfterLeast (g : GraphView) (level : List ℕ) (edges j : ℕ) (s : 
   pub before : Contains level s.before
   pub least : (i : ℕ) → i < s.before → Contains level i → ¬ IsEdge g i j
 
--- each set that was passed has only nodes that were met
-abbrev pub AreMet : GraphView → List Bool → List (Option Stop) → Type 0
-AreMet g passed stops = (k j : ℕ) → slice_index_or passed k false ≡ true
-    → Contains (slice_index_or g.sets k []) j → j < length stops → IsSome (stop_at stops j)
+-- the set has the node
+abbrev pub SetHas : GraphView → ℕ → ℕ → Type 0
+SetHas g set j = Contains (slice_index_or g.sets set []) j
+
+-- one of these has the node
+abbrev pub SomeHas : (ℕ → ℕ → Type 0) → List ℕ → ℕ → Type 0
+SomeHas Has places j = (k : ℕ) × Contains places k × Has k j
+
+-- a set of the list has the node
+abbrev pub ListHas : GraphView → ℕ → ℕ → Type 0
+ListHas g list j = SomeHas (SetHas g) (slice_index_or g.lists list []) j
+
+-- each that was passed has only nodes that were met
+abbrev pub AreMet : (ℕ → ℕ → Type 0) → List Bool → List (Option Stop) → Type 0
+AreMet Has passed stops = (k j : ℕ) → slice_index_or passed k false ≡ true
+    → Has k j → j < length stops → IsSome (stop_at stops j)
+
+-- which lists and which sets were passed: each of these has only nodes that were met
+pub record ArePassed (g : GraphView) (lists sets : List Bool) (stops : List (Option Stop))
+    : Type 0 where
+  pub lists_len : length lists ≡ length g.lists
+  pub sets_len : length sets ≡ length g.sets
+  pub lists_met : AreMet (ListHas g) lists stops
+  pub sets_met : AreMet (SetHas g) sets stops
 
 -- exactly the nodes to which ways of at most that many edges lead were met; the level has, in
 -- order, those whose shortest ways have exactly that many

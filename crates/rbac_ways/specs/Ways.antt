@@ -4,15 +4,18 @@ use Rattle.std.specs.Prelude.{IsSome}
 use Rattle.std.specs.Prelude.{AllPairs, Contains, MatchOption, length, slice_index_or}
 use Rattle.rbac_ways.specs.declared.graph.Stop.{Stop}
 
--- a graph: the sets that each node takes, and the nodes of each set
+-- a graph: the lists that each node takes, the sets of each list, and the nodes of each set
 pub record GraphView : Type 0 where
   pub takes : List (List ℕ)
+  pub lists : List (List ℕ)
   pub sets : List (List ℕ)
 
--- an edge leads from i to j: i takes a set that contains j
+-- an edge leads from i to j: i takes a list that has a set that contains j
 pub record IsEdge (g : GraphView) (i j : ℕ) : Type 0 where
+  pub list : ℕ
   pub set : ℕ
-  pub takes : Contains (slice_index_or g.takes i []) set
+  pub takes : Contains (slice_index_or g.takes i []) list
+  pub lists : Contains (slice_index_or g.lists list []) set
   pub has : Contains (slice_index_or g.sets set []) j
   pub node : j < length g.takes
 

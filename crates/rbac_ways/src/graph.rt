@@ -1,21 +1,23 @@
-//! Graphs whose edges go through sets, and where nodes are on shortest ways.
+//! Graphs whose edges go through lists of sets, and where nodes are on shortest ways.
 
 use rbac_terms::Items;
 use std::marker::Model;
 
-/// A graph whose edges go through sets of nodes: an edge leads from each node that takes a set to
-/// each node of the set. So a large set that many nodes take is kept once. Nodes and sets are
-/// numbered from 0; a number past the last one is ignored (own).
+/// A graph whose edges go through lists of sets of nodes: an edge leads from each node that takes a
+/// list to each node of a set of that list. So a list or a set that many nodes take is kept once.
+/// Nodes, lists and sets are numbered from 0; a number past the last one is ignored (own).
 pub struct Graph {
-    /// The sets that each node takes.
+    /// The lists that each node takes.
     pub takes: Vec<Items<usize>>,
+    /// The sets of each list.
+    pub lists: Vec<Items<usize>>,
     /// The nodes of each set.
     pub sets: Vec<Items<usize>>,
 }
 
 impl Drop for Graph {
     fn drop(self) {
-        let Self { takes, sets } = self;
+        let Self { takes, lists, sets } = self;
     }
 }
 
@@ -24,7 +26,11 @@ impl Model for Graph {
 
     ghost Value = { GraphView };
 
-    ghost view = { λ g. record { takes = g.takes.items; sets = g.sets.items } };
+    ghost view = { λ g. record {
+      takes = g.takes.items;
+      lists = g.lists.items;
+      sets = g.sets.items;
+    } };
 }
 
 /// Where a node is on a shortest way.

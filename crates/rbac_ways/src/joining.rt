@@ -1,58 +1,62 @@
 //! Graphs of nodes that share words. Each word has a number, and the set with this number contains
 //! the nodes that can be had by the word.
 
-ghost use Rattle.std.specs.Prelude.{◌≡◌, ◌<◌, ◌≤◌, ◌⊎◌, ◌↔◌, ℕ, IfOk, OnOk, Some, Contains, length};
-ghost use Rattle.std.specs.Prelude.{◌∷◌, [], replicate, slice_get, slice_index_or};
+ghost use Rattle.std.specs.Prelude.{◌≡◌, ◌+◌, ◌<◌, ◌≤◌, ◌⊎◌, ◌↔◌, ℕ, IfOk, OnOk, Some, Contains};
+ghost use Rattle.std.specs.Prelude.{◌∷◌, [], length, replicate, slice_get, slice_index_or};
 ghost use Rattle.std.specs.List.Sorted.{IsStrictlySortedBy};
 ghost use Rattle.rbac_terms.specs.Text.{text_cmp};
 ghost use Rattle.rbac_ways.specs.Ways.{IsEdge};
-ghost use Rattle.rbac_ways.specs.Joining.{AddsToEach, AreNumbersOfEach, AreTurned, AreWordsOf};
-ghost use Rattle.rbac_ways.specs.Joining.{IsListedAt, IsNumberOf, SharesWord, TakesSet};
+ghost use Rattle.rbac_ways.specs.Joining.{AddsToEach, AreLists, AreTurned, AreWordsOf, HasNumber};
+ghost use Rattle.rbac_ways.specs.Joining.{HasSet, IsListedAt, IsNumberOf, SharesWord, TakesList};
+ghost use Rattle.rbac_ways.specs.Joining.{TakesListed, TakesOwn};
 
 use crate::graph::Graph;
-use crate::listed::listed_in;
 use rbac_terms::{Items, Word, Words};
 use std::alloc::{AllocError, Global};
 
 impl Graph {
     /// The graph of nodes that share words: an edge leads from a node to another if the first takes
     /// a word by which the second can be had (own). A node takes the words of the lists at its
-    /// places, so a list that many nodes take is looked up once. An edge also leads from each node
-    /// to the nodes that `also` lists for it; `also` has at most one list for each node. Either the
-    /// words of the lists or those by which nodes can be had are sorted, once: whichever are fewer.
-    /// The nodes that can be had by a word are one set, however many nodes take the word. Fails only
-    /// if it runs out of memory.
+    /// places; a place past the last list is ignored. An edge also leads from each node to the
+    /// nodes of the list of `also` at its place in `own`, so nodes may share such a list; `own` has
+    /// at most one place for each node. Each list is looked up and kept once, however many nodes
+    /// take it. Either the words of the lists or those by which nodes can be had are sorted, once:
+    /// whichever are fewer. The nodes that can be had by a word are one set, however many lists
+    /// have the word. Fails only if it runs out of memory.
     pub fn joined(
         alloc: Global,
         lists: &[Words],
         takes: &[Items<usize>],
         had_by: &[Words],
         also: &[Items<usize>],
+        own: &[usize],
     ) -> Result<Self, AllocError>
-        requires { length also.now ≤ length takes.now }
+        requires { length own.now ≤ length takes.now }
         ensures nodes { IfOk result (λ g. length g.takes ≡ length takes.now) }
         ensures edges { IfOk result (λ g. (i j : ℕ) → IsEdge g i j ↔ ((j < length takes.now)
-            × (SharesWord lists.now takes.now had_by.now i j ⊎ IsListedAt also.now i j))) }
+            × (SharesWord lists.now takes.now had_by.now i j ⊎ TakesListed also.now own.now i j))) }
     {
         let words = words_of(alloc, fewer_words(lists, had_by))?;
-        let numbers = numbers_of_each(alloc, words.as_slice(), lists)?;
-        let takes = takes_of(alloc, words.as_slice(), numbers.as_slice(), takes)?;
+        let takes = takes_of(alloc, lists, takes, also, own)?;
+        let lists = lists_of(alloc, words.as_slice(), lists, also)?;
         let mut sets = sets_of(alloc, words.as_slice(), had_by)?;
         sets.extend_with_clones(also)?;
-        Ok(Graph { takes, sets })
+        Ok(Graph { takes, lists, sets })
     }
 
-    /// The graph with each edge turned round (own). A set that many nodes take stays one set. Fails
-    /// only if it runs out of memory.
+    /// The graph with each edge turned round (own). A list that many nodes take becomes one set,
+    /// and a set that many lists have becomes one list. Fails only if it runs out of memory.
     pub fn turned(&self, alloc: Global) -> Result<Self, AllocError>
         ensures nodes { IfOk result (λ g. length g.takes ≡ length self.now.takes) }
         ensures edges { IfOk result (λ g. (i j : ℕ) → IsEdge g i j ↔ IsEdge self.now j i) }
     {
         let takes = self.takes.as_slice();
+        let lists = self.lists.as_slice();
         let sets = self.sets.as_slice();
         Ok(Graph {
             takes: turned(alloc, sets, takes.len())?,
-            sets: turned(alloc, takes, sets.len())?,
+            lists: turned(alloc, lists, sets.len())?,
+            sets: turned(alloc, takes, lists.len())?,
         })
     }
 }
@@ -137,7 +141,8 @@ fn numbers_of_each(
     lists: &[Words],
 ) -> Result<Vec<Items<usize>>, AllocError>
     requires { IsStrictlySortedBy text_cmp words.now }
-    ensures { IfOk result (λ numbers. AreNumbersOfEach words.now lists.now numbers.items) }
+    ensures { IfOk result (λ numbers.
+        AreLists (HasNumber words.now lists.now) (length lists.now) numbers.items) }
 {
     let mut numbers = Vec::with_capacity(alloc, lists.len())?;
     for listed in lists {
@@ -146,25 +151,83 @@ fn numbers_of_each(
     Ok(numbers)
 }
 
-// The sets that each node takes: those of the words that the lists at its places have, whose numbers
-// these are, and one of its own. The own sets come after the sets of all words.
-fn takes_of(
+// The sets of each list: those of its words; and then, for each list of `also`, a list of one set.
+// These sets come after the sets of all words.
+fn lists_of(
     alloc: Global,
     words: &[Word],
-    numbers: &[Items<usize>],
-    takes: &[Items<usize>],
+    lists: &[Words],
+    also: &[Items<usize>],
 ) -> Result<Vec<Items<usize>>, AllocError>
-    ensures len { IfOk result (λ sets. length sets.items ≡ length takes.now) }
-    ensures each { IfOk result (λ sets. (i set : ℕ) → i < length takes.now
-        → IsListedAt sets.items i set ↔ TakesSet (length words.now) numbers.now takes.now i set) }
+    requires { IsStrictlySortedBy text_cmp words.now }
+    ensures { IfOk result (λ all.
+        AreLists (HasSet words.now lists.now) (length lists.now + length also.now) all.items) }
+{
+    let mut all = numbers_of_each(alloc, words, lists)?;
+    for place in 0..also.len() {
+        let mut single = Items::new(alloc);
+        single.push(words.len() + place)?;
+        all.push(single)?;
+    }
+    Ok(all)
+}
+
+// The lists that each node takes: those of words at its places, and the list of nodes at its own
+// place. Lists of nodes come after lists of words.
+fn takes_of(
+    alloc: Global,
+    lists: &[Words],
+    takes: &[Items<usize>],
+    also: &[Items<usize>],
+    own: &[usize],
+) -> Result<Vec<Items<usize>>, AllocError>
+    ensures { IfOk result (λ all. AreLists
+        (TakesList (length lists.now) (length also.now) takes.now own.now)
+        (length takes.now) all.items) }
 {
     let mut all = Vec::with_capacity(alloc, takes.len())?;
     for (node, places) in takes.iter().enumerate() {
-        let mut sets = listed_in(alloc, numbers, places.as_slice())?;
-        sets.push(words.len() + node)?;
-        all.push(Items::from_vec(sets))?;
+        let mut taken = numbers_below(alloc, places.as_slice(), lists.len())?;
+        add_own(node, lists, also, own, &mut taken)?;
+        all.push(Items::from_vec(taken))?;
     }
     Ok(all)
+}
+
+// The numbers that are below a bound. A place past the last list mustn't be taken for the number of
+// a list of nodes.
+fn numbers_below(alloc: Global, numbers: &[usize], bound: usize) -> Result<Vec<usize>, AllocError>
+    ensures { IfOk result (λ below. (number : ℕ)
+        → Contains below.items number ↔ (Contains numbers.now number × (number < bound))) }
+{
+    let mut below = Vec::new(alloc);
+    for number in numbers {
+        if *number < bound {
+            below.push(*number)?;
+        }
+    }
+    Ok(below)
+}
+
+// Adds the list of nodes that a node takes at its own place, if there is one.
+fn add_own(
+    node: usize,
+    lists: &[Words],
+    also: &[Items<usize>],
+    own: &[usize],
+    taken: &mut Vec<usize>,
+) -> Result<(), AllocError>
+    ensures { OnOk result ((list : ℕ) → Contains taken.new.items list
+        ↔ (Contains taken.old.items list
+        ⊎ TakesOwn (length lists.now) (length also.now) own.now node list)) }
+{
+    let Some(place) = own.get(node) else {
+        return Ok(());
+    };
+    if *place < also.len() {
+        taken.push(lists.len() + *place)?;
+    }
+    Ok(())
 }
 
 // The nodes that can be had by each word.

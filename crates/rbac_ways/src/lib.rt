@@ -1,5 +1,5 @@
-//! Graphs whose edges go through sets of nodes. They are made of the words that nodes share, and
-//! searched for shortest ways.
+//! Graphs whose edges go through lists of sets of nodes. They are made of the words that nodes
+//! share, and searched for shortest ways.
 #![tactic(auto)]
 
 mod by_word;

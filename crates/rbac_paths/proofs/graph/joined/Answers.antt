@@ -1,14 +1,15 @@
-use Rattle.std.proofs.Common.{◌≡◌, ◌+◌, ◌<◌, ◌++◌, ◌∙◌, ◌∷◌, [], Contains, List, Some, ap, append-nil, append_assoc, arith, get_or, length, map, refl, slice_get, subst, sym, ℕ}
-use Rattle.std.proofs.lemmas.List.{length-map, length_push}
-use Rattle.std.proofs.lemmas.Option.{same_Some, slice_get_within}
+use Rattle.std.proofs.Common.{◌≡◌, ◌+◌, ◌++◌, ◌∙◌, ◌∷◌, [], Contains, List, Some, ap, append-nil, append_assoc, arith, get_or, length, map, refl, slice_get, subst, sym, ℕ}
+use Rattle.std.proofs.lemmas.List.{length-map}
+use Rattle.std.proofs.lemmas.Option.{same_Some}
 use Rattle.rbac_terms.specs.Text.{Text}
 use Rattle.rbac_ways.specs.Joining.{IsListedIn}
 use Rattle.rbac_paths.specs.Deciding.{ArePlaces, ArePlacesOf, IsAnyNode}
 use Rattle.rbac_paths.specs.Having.{HoldingView}
-use Rattle.rbac_paths.specs.Joints.{AreFewGrants, AreJoints, AreKnown, AreOthers, DecideOn, IsNobody, TakesByWords}
+use Rattle.rbac_paths.specs.Joints.{AreFewGrants, AreOwnWords, AreTaken, DecideOn, IsNobody, OthersTakenView, TakesByWords}
 use Rattle.rbac_paths.specs.Nodes.{NodeView, node_of}
+use Rattle.rbac_paths.specs.SharedLists.{list_of}
 use Rattle.rbac_paths.specs.Told.{HasItsRole}
-use Rattle.rbac_paths.proofs.GraphOf.{graph_is, joints_more, joints_none, ok_both, pushed}
+use Rattle.rbac_paths.proofs.GraphOf.{graph_is, ok_both, own_more, own_none}
 use Rattle.rbac_paths.proofs.ListPlaces.{each_takes}
 use Rattle.rbac_paths.proofs.Mapped.{mapped_at, mapped_has}
 use Rattle.rbac_paths.proofs.graph.joined.Goals as goal
@@ -30,7 +31,10 @@ few_taken-requires-clause-few c =
 
 pub loop-place-init : goal.loop-place-init
 loop-place-init c =
-    ([], sym (append-nil c.in_ok-lists.lists.items), joints_none c.args.policy.now c.args.steps.now (map node_of c.args.nodes.now) [] c.in_ok-also.also.items refl c.in_ok-also.ensures.items, ap length c.in_ok-overs.ensures.items, λ k y low at. absurd (omega (arith, low)))
+    let p = c.args.policy.now in
+    let steps = c.args.steps.now in
+    let ys = map node_of c.args.nodes.now in
+    ([], sym (append-nil c.in_ok-words.words.lists.items), own_none p steps ys [] refl, c.none-others.ensures p steps ys)
 
 pub loop-place-preserved : goal.loop-place-preserved
 loop-place-preserved c =
@@ -47,25 +51,15 @@ loop-place-preserved c =
     let few = subst (λ (fs : List (List ℕ)). AreFewGrants p steps grants fs) (sym c.as_slice-few.ensures.value) (c.in_ok-few.ensures steps c.requires.takeovers) in
     let own = subst (λ (ps : List ℕ). ArePlacesOf p grants (length grants + place) x ps) (sym c.listed_at-own.ensures) (c.requires.places.each place x c.loop-place-test.true at) in
     let decide = c.in_ok-over.ensures grants (length grants + place) (omega arith) c.requires.grants few own held in
-    let over = subst (λ (h : List HoldingView). DecideOn p steps x h IsNobody) (sym c.as_slice-few_over.ensures.value) decide in
-    let bound = c.in_ok-lists.lists.items in
+    let bound = c.in_ok-words.words.lists.items in
     let before = c.loop-place.invariant.0 in
     let ws = c.in_ok-words_held.field-0 in
-    let js = c.in_ok-taken.taken in
-    let overs = c.loop-place.overs.items in
-    let joints = c.loop-place.invariant.2 in
-    let len = c.loop-place.invariant.3 in
-    let decided = c.loop-place.invariant.4 in
-    let known : AreKnown p steps ys c.as_slice-known.result.now c.as_slice-before.result.now = rw (c.as_slice-known.ensures.value, c.as_slice-before.ensures.value)
-    (λ k y low there. (let less : k < place = omega (arith, low, len) in (decided k y less there, joints.others k y less there))) in
-    rw (c.in_ok-push-2.ensures.items, c.in_ok-push-3.ensures.items, c.from_vec.ensures) (
+    rw c.in_ok-push.ensures.items (
       before ++ ws ∷ [],
-      c.in_ok-push.ensures.items ∙ ap (λ (ls : List (List Text)). ls ++ ws ∷ []) c.loop-place.invariant.1 ∙ append_assoc bound before (ws ∷ []),
-      joints_more p steps ys place before c.loop-place.also.items ws js joints
-          (λ y there nobody. subst (λ (z : NodeView). TakesByWords p steps z (λ w. Contains ws w)) (is y there) (c.in_ok-words_held.ensures p (held (subst (λ (z : NodeView). IsNobody z) (sym (is y there)) nobody))))
-          (λ y there. subst (λ (z : NodeView). AreOthers p steps z ys js) (is y there) (c.in_ok-taken.ensures p known over)),
-      length_push overs c.in_ok-over.over.items ∙ ap (λ (n : ℕ). n + 1) len,
-      pushed (λ k y hs. DecideOn p steps y hs IsNobody) ys [] overs c.in_ok-over.over.items place len decided (λ y there. subst (λ (z : NodeView). DecideOn p steps z c.in_ok-over.over.items IsNobody) (is y there) decide),
+      ap (λ (ls : List (List Text)). ls ++ ws ∷ []) c.loop-place.invariant.1 ∙ append_assoc bound before (ws ∷ []),
+      own_more p steps ys place before ws c.loop-place.invariant.2
+          (λ y there nobody. subst (λ (z : NodeView). TakesByWords p steps z (λ w. Contains ws w)) (is y there) (c.in_ok-words_held.ensures p (held (subst (λ (z : NodeView). IsNobody z) (sym (is y there)) nobody)))),
+      c.in_ok-add.ensures p place c.loop-place.invariant.3 at decide,
     )
 
 pub returns : goal.returns
@@ -77,15 +71,20 @@ returns c =
     let len = length-map nodes node_of in
     let end : c.loop-place.place ≡ length ys = (let test = c.loop-place-test.false in let low = c.loop-place.auto.place-end in let e : c.loop-place.place ≡ length nodes = omega (arith, test, low) in e) ∙ sym len in
     let own = c.loop-place.invariant.0 in
-    let bound = c.in_ok-lists.lists.items in
-    let joints = subst (λ (n : ℕ). AreJoints p steps ys n own c.loop-place.also.items) end c.loop-place.invariant.2 in
+    let bound = c.in_ok-words.words.lists.items in
+    let shared = c.in_ok-words.words.places.items in
+    let words_own = subst (λ (n : ℕ). AreOwnWords p steps ys n own) end c.loop-place.invariant.2 in
+    let taken = subst (λ (n : ℕ). AreTaken p steps ys n c.loop-place.others) end c.loop-place.invariant.3 in
     let places = subst (λ (n : ℕ). ArePlaces p c.args.grants.now ys n c.args.places.now) (sym len) c.requires.places in
-    let lists : c.as_slice-lists.result.now ≡ bound ++ own = c.as_slice-lists.ensures.value ∙ c.loop-place.invariant.1 in
-    let words = each_takes p c.requires.policy steps c.args.grants.now c.requires.grants bound own (c.in_ok-lists.ensures steps c.requires.takeovers) ys c.args.places.now c.loop-place.also.items places joints in
-    let had = rw (← c.as_slice.ensures.value, ← len) at c.in_ok-had_by.ensures in
+    let lists : c.as_slice-2.result.now ≡ bound ++ own = c.as_slice-2.ensures.value ∙ c.loop-place.invariant.1 in
+    let takes : c.as_slice-3.result.now ≡ map (map (list_of shared)) c.args.places.now =
+    c.as_slice-3.ensures.value ∙ c.in_ok-takes.ensures ∙ ap (λ (ps : List ℕ). map (map (list_of ps)) c.args.places.now) c.as_slice.ensures.value in
+    let words = each_takes p c.requires.policy steps c.args.grants.now c.requires.grants bound own shared (c.in_ok-words.ensures steps c.requires.takeovers) ys c.args.places.now c.as_slice-3.result.now places takes words_own in
+    let had = rw (← c.as_slice-4.ensures.value, ← len) at c.in_ok-had_by.ensures in
+    let takes_len : length c.as_slice-3.result.now ≡ length ys = ap length takes ∙ length-map c.args.places.now (map (list_of shared)) ∙ places.len in
     ok_both c.joined.result _ _ _
-    (λ g takes_len edges. graph_is p steps ys c.as_slice-lists.result.now c.args.places.now c.as_slice.result.now c.as_slice-2.result.now places.len
-    (λ i x there. subst (λ (ls : List (List Text)). TakesByWords p steps x (λ w. IsListedIn ls (get_or c.args.places.now i []) w)) (sym lists) (words i x there))
-    (λ i x there. subst (λ (js : List (List ℕ)). AreOthers p steps x ys (get_or js i [])) (sym c.as_slice-2.ensures.value) (joints.others i x (slice_get_within ys i x there) there))
-    had g takes_len edges)
+    (λ g g_len edges. graph_is p steps ys c.as_slice-2.result.now c.as_slice-3.result.now c.as_slice-4.result.now c.as_slice-5.result.now c.as_slice-6.result.now takes_len
+    (λ i x there. subst (λ (ls : List (List Text)). TakesByWords p steps x (λ w. IsListedIn ls (get_or c.as_slice-3.result.now i []) w)) (sym lists) (words i x there))
+    (rw (c.as_slice-5.ensures.value, c.as_slice-6.ensures.value, ap (λ (v : OthersTakenView). v.lists) c.others.view_is, ap (λ (v : OthersTakenView). v.places) c.others.view_is) taken.others)
+    had g g_len edges)
     c.joined.ensures.nodes c.joined.ensures.edges

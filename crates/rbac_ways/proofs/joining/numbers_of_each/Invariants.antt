@@ -1,5 +1,5 @@
-use Rattle.rbac_ways.proofs.Numbering.{AreNumberedBelow}
+use Rattle.rbac_ways.specs.Joining.{AreLists, HasNumber}
 use Rattle.rbac_ways.proofs.joining.numbers_of_each.Given as goal
 
 abbrev pub invariant-loop-listed : goal.invariant-loop-listed
-invariant-loop-listed l = AreNumberedBelow l.words l.lists l.listed-index l.numbers.items
+invariant-loop-listed l = AreLists (HasNumber l.words l.lists) l.listed-index l.numbers.items

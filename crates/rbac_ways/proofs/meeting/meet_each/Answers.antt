@@ -15,4 +15,4 @@ pub returns : goal.returns
 returns c =
     let nodes = c.args.nodes.now in
     let all : take c.loop-node.node-index nodes ≡ nodes = take_all c.loop-node.node-index nodes (omega (arith, c.loop-node-test.false)) in
-    subst (λ (xs : List ℕ). MeetsNodes (Contains xs) (IsOneOf xs c.args.stop) c.args.stops.now.items c.loop-node.stops.items c.args.level.now.items c.loop-node.level.items) all c.loop-node.invariant
+    subst (λ (xs : List ℕ). MeetsNodes (Contains xs) (IsOneOf (Contains xs) c.args.stop) c.args.stops.now.items c.loop-node.stops.items c.args.level.now.items c.loop-node.level.items) all c.loop-node.invariant

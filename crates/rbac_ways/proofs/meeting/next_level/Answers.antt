@@ -1,4 +1,4 @@
-use Rattle.std.proofs.Common.{◌≡◌, ◌∙◌, [], List, ℕ, arith, refl, subst, take}
+use Rattle.std.proofs.Common.{◌≡◌, [], List, ℕ, arith, refl, subst, take}
 use Rattle.std.proofs.lemmas.List.{take_all, take_more}
 use Rattle.rbac_ways.specs.Meeting.{IsAfterLeast, IsNextTo, MeetsNodes}
 use Rattle.rbac_ways.proofs.Edges.{less_before, meets_node}
@@ -11,8 +11,7 @@ loop-node-preserved c =
     let nodes = c.args.level.now in
     let i = c.loop-node.node-index in
     record {
-      passed = c.in_ok-meet_next.ensures.sets ∙ c.loop-node.invariant.passed;
-      met = c.in_ok-meet_next.ensures.met;
+      passed = c.in_ok-meet_next.ensures.passed;
       meets = rw (take_more nodes i 0 c.loop-node-test.true)
           (meets_node g c.args.edges (take i nodes) _ c.args.stops.now.items c.loop-node.stops.items c.meet_next.new.stops.items
           [] c.loop-node.next.items c.meet_next.new.level.items c.requires.nodes
