@@ -66,7 +66,8 @@ IsChangeRefused change first others fault = IsSideRefused first (objects_of firs
     × (fault ≡ behind (length first) own)))
 
 -- the inputs are loaded: for `diff` the first n give the policy before a change, and the others the
--- one after it; otherwise all together give an export, which comes with the log for `unused` and `least`
+-- one after it; otherwise all together give an export, which comes with the log for `unused` and
+-- `least`
 abbrev pub AreLoaded : Action → List (List ℕ) → List RequestView → Exports → Type 0
 AreLoaded (Diff n change) inputs log (Pair before after) =
     IsSideBefore (take n inputs) before × IsSideAfter change (take n inputs) (drop n inputs) after

@@ -4,8 +4,8 @@ use Rattle.rbac_terms.specs.Principals.{Who}
 use Rattle.rbac_groups.specs.Memberships.{users_listed, with_memberships}
 use Rattle.rbac_manifest.specs.Load.{LoadedView}
 
--- the users and groups that bindings, ServiceAccount objects and Group documents name, without given
--- groups (own)
+-- the users and groups that bindings, ServiceAccount objects and Group documents name, without
+-- given groups (own)
 abbrev pub named_alone : LoadedView → List Who
 named_alone l = l.principals ++ users_listed l.memberships
 

@@ -65,8 +65,9 @@ pub fn answers_are_one()
 }
 
 /// Two runs of one command over the same inputs, and over logs with the same requests, end alike,
-/// and their writers take the same text, if neither runs out of memory or fails to write: both give the same answer with the same status, or
-/// the same refusal and no text. So an answer and a refusal exclude each other (own).
+/// and their writers take the same text, if neither runs out of memory or fails to write: both give
+/// the same answer with the same status, or the same refusal and no text. So an answer and a refusal
+/// exclude each other (own).
 pub fn runs_are_one<V: Write, W: Write>()
     ensures { (start end : SinkView V) (old new : SinkView W) (command : Command)
         (inputs : List (List ℕ)) (log logged : List RequestView)

@@ -82,8 +82,8 @@ fn status_of(listed: &[Path<'_>], to: &Option<PathEnd>) -> Status
     }
 }
 
-/// The users and groups that bindings, ServiceAccount objects and Group documents name, each once, in
-/// order of keys, with the groups that documents give them.
+/// The users and groups that bindings, ServiceAccount objects and Group documents name, each once,
+/// in order of keys, with the groups that documents give them.
 pub(crate) fn named_principals(
     alloc: Global,
     export: &Export,
